@@ -1,0 +1,5 @@
+pub mod Causes
+pub mod Streams
+pub mod Disks
+pub mod Past
+pub mod Clocks
