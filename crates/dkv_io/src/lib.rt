@@ -1,12 +1,18 @@
-//! The outside: where bytes come from, where they go, and what keeps them.
+//! The outside: where bytes come from, where they go, what keeps them, and where moments and random bytes come from.
+//!
+//! The layer above may rely on the traits alone: a call that fails raises its object's count of faults (or finds it at its last
+//! value), a count never falls, and a disk says what a crash may leave of it at each moment. The versions in memory tell their
+//! content, and fail at the calls that they are told to.
 #![tactic(auto)]
 
 mod clock;
 mod disk;
 mod list_clock;
 mod list_random;
-mod memory;
 mod memory_disk;
+mod memory_sink;
+mod memory_source;
+mod plan;
 mod random;
 mod sink;
 mod source;
@@ -16,8 +22,9 @@ pub use clock::Clock;
 pub use disk::Disk;
 pub use list_clock::ListClock;
 pub use list_random::ListRandom;
-pub use memory::{MemorySink, MemorySource};
 pub use memory_disk::MemoryDisk;
+pub use memory_sink::MemorySink;
+pub use memory_source::MemorySource;
 pub use random::Random;
 pub use sink::{Failed, Sink};
 pub use source::{Got, Source};
