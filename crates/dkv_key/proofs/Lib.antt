@@ -1,0 +1,8 @@
+mod Orders
+mod Escapes
+mod Numbers
+mod Doubles
+mod PartOrder
+mod Fronts
+mod Stamping
+mod Finding

@@ -1,0 +1,137 @@
+-- Integers compare by the number of their magnitude bytes, and then by these.
+use Rattle.std.proofs.Common.{◌≡◌, inl, inr, ℕ, zero, suc, ◌+◌, ◌-◌, ◌*◌, ◌^◌, ◌<◌, ◌≤◌, List, [], ◌∷◌, length, refl, sym, ap, subst, ◌∙◌, arith}
+use Rattle.std.specs.Prelude.{pos, negsuc, neg_ℤ}
+use Rattle.std.specs.Ordering.{nat_cmp, int_cmp, ordering_then}
+use Rattle.std.specs.declared.cmp.Ordering.TheVariants.{Less, Equal, Greater}
+use Rattle.std.proofs.lemmas.Bool.{lt-ltb, le-ltb}
+use Rattle.std.proofs.Math.Nat.{pow-succ', mul-le-mul_right}
+use Rattle.dkv_base.specs.State.{key_cmp}
+use Rattle.dkv_key.specs.Parts.{HasNoLeadingZero, AreBytes, number}
+use Rattle.dkv_key.proofs.Orders.{nat_less, nat_equal, nat_greater, ranked, ranked_alike}
+
+pub bytes_tail : (b : ℕ) (bytes : List ℕ) → AreBytes (b ∷ bytes) → AreBytes bytes
+bytes_tail b bytes all i = all (suc i)
+
+-- so many bytes write numbers below this
+pub number_below : (a : List ℕ) → AreBytes a → number a < 256 ^ length a
+number_below [] all = omega arith
+number_below (b ∷ a) all =
+    let low = number_below a (bytes_tail b a all) in
+    let top : b ≤ 255 = omega (arith, all 0) in
+    let product : b * 256 ^ length a ≤ 255 * 256 ^ length a = mul-le-mul_right (256 ^ length a) top in
+    let power : 256 ^ suc (length a) ≡ 256 * 256 ^ length a = pow-succ' 256 (length a) in
+    omega (arith, low, product, power)
+
+step_up : (x y w n m : ℕ) → x < y → n < w → x * w + n < y * w + m
+step_up x y w n m lt low =
+    let product : suc x * w ≤ y * w = mul-le-mul_right w lt in
+    let parts : suc x * w ≡ w + x * w = omega arith in
+    omega (arith, product, parts, low)
+
+-- numbers of as many bytes compare by these
+pub number_order : (a b : List ℕ) → AreBytes a → AreBytes b → length a ≡ length b → nat_cmp (number a) (number b) ≡ key_cmp a b
+number_order [] [] f g e = refl
+number_order [] (y ∷ b) f g e = absurd (omega (arith, e))
+number_order (x ∷ a) [] f g e = absurd (omega (arith, e))
+number_order (x ∷ a) (y ∷ b) f g e =
+    let sizes : length a ≡ length b = omega (arith, e) in
+    let powers : 256 ^ length a ≡ 256 ^ length b = ap (λ (n : ℕ). 256 ^ n) sizes in
+    let low = number_below a (bytes_tail x a f) in
+    let high = number_below b (bytes_tail y b g) in
+    let same : number (y ∷ b) ≡ y * 256 ^ length a + number b = ap (λ (n : ℕ). y * n + number b) (sym powers) in
+    let rest = number_order a b (bytes_tail x a f) (bytes_tail y b g) sizes in
+    ap (nat_cmp (number (x ∷ a))) same
+    ∙ elim (ranked x y) [
+      | inl lt ↦ nat_less _ _ (step_up x y (256 ^ length a) (number a) (number b) lt low) ∙ ap (λ o. ordering_then o (key_cmp a b)) (sym (nat_less x y lt))
+      | inr more ↦
+          elim more [
+            | inl is ↦
+                ap (λ (n : ℕ). nat_cmp (n * 256 ^ length a + number a) (y * 256 ^ length a + number b)) is
+                ∙ ranked_alike (y * 256 ^ length a + number a) (y * 256 ^ length a + number b) (number a) (number b) (λ lt. omega (arith, lt)) (λ eq. omega (arith, eq)) (λ gt. omega (arith, gt))
+                ∙ rest
+                ∙ ap (λ o. ordering_then o (key_cmp a b)) (sym (nat_equal x y is))
+            | inr gt ↦
+                nat_greater _ _ (step_up y x (256 ^ length a) (number b) (number a) gt (omega (arith, high, powers)))
+                ∙ ap (λ o. ordering_then o (key_cmp a b)) (sym (nat_greater x y gt))
+          ]
+    ]
+
+power_some : (n : ℕ) → 0 < 256 ^ n
+power_some zero = omega arith
+power_some (suc n) = omega (arith, power_some n, pow-succ' 256 n)
+
+power_rises : (n k : ℕ) → 256 ^ n ≤ 256 ^ (n + k)
+power_rises n zero = let e : n + 0 ≡ n = omega arith in let P : ℕ → Type 0 = λ m. 256 ^ n ≤ 256 ^ m in subst P (sym e) (omega arith)
+power_rises n (suc k) =
+    let e : n + suc k ≡ suc (n + k) = omega arith in
+    let P : ℕ → Type 0 = λ m. 256 ^ n ≤ 256 ^ m in
+    subst P (sym e) (omega (arith, power_rises n k, pow-succ' 256 (n + k)))
+
+-- more bytes without a leading zero write a greater number
+pub number_longer : (a b : List ℕ) → AreBytes a → HasNoLeadingZero b → length a < length b → number a < number b
+number_longer a [] f z lt = absurd (omega (arith, lt))
+number_longer a (y ∷ b) f z lt =
+    let k = length b - length a in
+    let sum : length a + k ≡ length b = omega (arith, lt) in
+    let up : 256 ^ length a ≤ 256 ^ length b = let P : ℕ → Type 0 = λ m. 256 ^ length a ≤ 256 ^ m in subst P sum (power_rises (length a) k) in
+    let product : 1 * 256 ^ length b ≤ y * 256 ^ length b = mul-le-mul_right (256 ^ length b) z in
+    omega (arith, number_below a f, up, product)
+
+pub number_some : (a : List ℕ) → HasNoLeadingZero a → 0 < length a → 0 < number a
+number_some a z some = number_longer [] a (λ i. omega arith) z some
+
+-- magnitudes compare by their sizes and then by their bytes
+pub magnitude_order : (a b : List ℕ) → AreBytes a → AreBytes b → HasNoLeadingZero a → HasNoLeadingZero b
+    → nat_cmp (number a) (number b) ≡ ordering_then (nat_cmp (length a) (length b)) (key_cmp a b)
+magnitude_order a b f g y z =
+    elim (ranked (length a) (length b)) [
+      | inl lt ↦ nat_less _ _ (number_longer a b f z lt) ∙ ap (λ o. ordering_then o (key_cmp a b)) (sym (nat_less _ _ lt))
+      | inr more ↦
+          elim more [
+            | inl e ↦ number_order a b f g e ∙ ap (λ o. ordering_then o (key_cmp a b)) (sym (nat_equal _ _ e))
+            | inr gt ↦ nat_greater _ _ (number_longer b a g y gt) ∙ ap (λ o. ordering_then o (key_cmp a b)) (sym (nat_greater _ _ gt))
+          ]
+    ]
+
+pub positive_order : (x y : ℕ) → int_cmp (pos x) (pos y) ≡ nat_cmp x y
+positive_order x y =
+    elim (ranked x y) [
+      | inl lt ↦ less lt ∙ sym (nat_less x y lt)
+      | inr more ↦ elim more [ inl e ↦ equal e ∙ sym (nat_equal x y e) | inr gt ↦ greater gt ∙ sym (nat_greater x y gt) ]
+    ]
+  where
+    less : x < y → int_cmp (pos x) (pos y) ≡ Less
+    less lt = rw (lt-ltb x y lt) refl
+
+    equal : x ≡ y → int_cmp (pos x) (pos y) ≡ Equal
+    equal e = rw (le-ltb x y (omega (arith, e)), le-ltb y x (omega (arith, e))) refl
+
+    greater : y < x → int_cmp (pos x) (pos y) ≡ Greater
+    greater gt = rw (le-ltb x y (omega (arith, gt)), lt-ltb y x gt) refl
+
+pub negative_order : (x y : ℕ) → int_cmp (neg_ℤ (pos x)) (neg_ℤ (pos y)) ≡ nat_cmp y x
+negative_order zero zero = refl
+negative_order zero (suc y) = sym (nat_greater (suc y) 0 (omega arith))
+negative_order (suc x) zero = sym (nat_less 0 (suc x) (omega arith))
+negative_order (suc x) (suc y) =
+    elim (ranked y x) [
+      | inl lt ↦ less lt ∙ sym (nat_less (suc y) (suc x) (omega (arith, lt)))
+      | inr more ↦ elim more [ inl e ↦ equal e ∙ sym (nat_equal (suc y) (suc x) (ap suc e)) | inr gt ↦ greater gt ∙ sym (nat_greater (suc y) (suc x) (omega (arith, gt))) ]
+    ]
+  where
+    less : y < x → int_cmp (negsuc x) (negsuc y) ≡ Less
+    less lt = rw (lt-ltb y x lt) refl
+
+    equal : y ≡ x → int_cmp (negsuc x) (negsuc y) ≡ Equal
+    equal e = rw (le-ltb y x (omega (arith, e)), le-ltb x y (omega (arith, e))) refl
+
+    greater : x < y → int_cmp (negsuc x) (negsuc y) ≡ Greater
+    greater gt = rw (le-ltb y x (omega (arith, gt)), lt-ltb x y gt) refl
+
+pub negative_first : (x y : ℕ) → 0 < x → int_cmp (neg_ℤ (pos x)) (pos y) ≡ Less
+negative_first zero y some = absurd (omega (arith, some))
+negative_first (suc x) y some = refl
+
+pub positive_last : (x y : ℕ) → 0 < y → int_cmp (pos x) (neg_ℤ (pos y)) ≡ Greater
+positive_last x zero some = absurd (omega (arith, some))
+positive_last x (suc y) some = refl
