@@ -1,5 +1,9 @@
 pub mod ByNumber
+pub mod Fits
+pub mod Laws
+pub mod Kinds
 pub mod Messages
 pub mod Places
 pub mod Readings
+pub mod Sources
 pub mod Spellings

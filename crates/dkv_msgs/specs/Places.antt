@@ -1,8 +1,8 @@
 -- Where a body is no message: the first place where no field begins, in it or in a message inside it. Places count from
 -- the start of the whole body.
 --     bad_snapshot_read at bytes, ..      the least bad place of a body that begins at place `at`
-use Rattle.std.specs.Prelude.{ℕ, ◌-◌, min, Bool, ◌&&◌, not, ◌==◌, if◌then◌else◌, List, [], ◌∷◌, length, Option, Some, None}
-use Rattle.dkv_wire.specs.Wire.{Item, Content, AVarint, AFixed64, ALen, AFixed32}
+use Rattle.std.specs.Prelude.{ℕ, ◌-◌, min, ◌==◌, if◌then◌else◌, List, [], ◌∷◌, length, Option, Some, None}
+use Rattle.dkv_wire.specs.Wire.{Item, Content, ALen}
 use Rattle.dkv_wire.specs.FieldLists.{fields, bad, are_varints}
 
 -- the earlier of two places

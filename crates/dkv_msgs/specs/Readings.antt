@@ -1,9 +1,11 @@
 -- What a body reads as: its message, or the first place where no field begins.
-use Rattle.std.specs.Prelude.{ℕ, List, [], Option, Some, None, Result, Ok, Err}
+use Rattle.std.specs.Prelude.{◌≡◌, ℕ, List, Option, Some, None, Result, Ok, Err}
 use Rattle.dkv_wire.specs.FieldLists.{fields}
 use Rattle.dkv_base.specs.declared.types.AtomicWrite.{AtomicWrite}
 use Rattle.dkv_base.specs.declared.types.ReadRange.{ReadRange}
 use Rattle.dkv_base.specs.Pipe.{Readings}
+use Rattle.dkv_msgs.specs.declared.read.ReadError.{ReadError}
+use Rattle.dkv_msgs.specs.declared.read.ReadError.TheVariants as error
 use Rattle.dkv_msgs.specs.declared.types.AtomicWriteOutput.{AtomicWriteOutput}
 use Rattle.dkv_msgs.specs.declared.types.SnapshotRead.{SnapshotRead}
 use Rattle.dkv_msgs.specs.declared.types.SnapshotReadOutput.{SnapshotReadOutput}
@@ -34,6 +36,12 @@ reads_watch body = unless_bad (bad_watch 0 body) (watch (fields 0 body))
 
 abbrev pub reads_watch_output : List ℕ → Result WatchOutput ℕ
 reads_watch_output body = unless_bad (bad_watch_output 0 body) (watch_output (fields 0 body))
+
+-- what a call answered is the reading; want of memory alone is free
+abbrev pub IsReading : {M : Type 0} → Result M ℕ → Result M ReadError → Type 0
+IsReading reading (Ok m) = reading ≡ Ok m
+IsReading reading (Err (error.Malformed at)) = reading ≡ Err at
+IsReading reading (Err error.NoMemory) = Unit {0}
 
 -- the same of what a pipe's frames ask
 abbrev pub reads_ranges : List ℕ → Result (List ReadRange) ℕ

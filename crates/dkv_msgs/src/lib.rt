@@ -5,9 +5,33 @@
 //! begins. A message is written in its one canonical spelling, which reads as the message again.
 #![tactic(auto)]
 
+mod laws;
+mod read;
+mod read_by_number;
+mod read_messages;
+mod read_places;
+mod read_source;
+#[cfg(test)]
+mod read_tests;
+mod replies;
 mod types;
+mod write;
+mod write_fields;
+mod write_parts;
+#[cfg(test)]
+mod write_tests;
 
+pub use laws::{one_spelling, reads_back, replies_are_messages, spelled_short};
+pub use read::{
+    ReadError, read_atomic_write, read_atomic_write_output, read_snapshot_read,
+    read_snapshot_read_output, read_watch, read_watch_output,
+};
+pub use replies::{fails_reply, read_reply, written_reply};
 pub use types::{
     AtomicWriteOutput, KvEntry, SnapshotRead, SnapshotReadOutput, Watch, WatchKeyOutput,
     WatchOutput,
+};
+pub use write::{
+    write_atomic_write, write_atomic_write_output, write_snapshot_read, write_snapshot_read_output,
+    write_watch, write_watch_output,
 };

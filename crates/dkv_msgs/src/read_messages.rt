@@ -1,0 +1,199 @@
+ghost use Rattle.std.specs.Prelude.{◌≡◌, IfOk};
+ghost use Rattle.dkv_wire.specs.FieldLists.{fields};
+ghost use Rattle.dkv_msgs.specs.ByNumber.{int32, int64};
+ghost use Rattle.dkv_msgs.specs.Messages.{each_of, one_of, kv_value, kv_entry};
+ghost use Rattle.dkv_msgs.specs.Sources.{source_fields};
+
+use crate::read_by_number::{Payloads, all_bytes, last_bytes, last_number, numbers};
+use crate::read_source::Source;
+use crate::types::{KvEntry, WatchKeyOutput};
+use dkv_base::{Bytes, Check, Enqueue, Mutation, NoMemory, ReadRange, Run, Value};
+use std::alloc::Global;
+
+// What the payload of an embedded message is read as. A payload that is not whole fields is read as those it begins with.
+pub(crate) trait Embedded: Sized {
+    ghost use Rattle.std.specs.Prelude.{List};
+    ghost use Rattle.dkv_wire.specs.Wire.{Item};
+
+    ghost read_of: { List Item → Self };
+
+    fn read(alloc: Global, bytes: &[u8]) -> Result<Self, NoMemory>
+        ensures { IfOk result (λ m. m ≡ read_of (fields 0 bytes.now)) };
+}
+
+// The messages of a number, in order.
+pub(crate) fn each<M: Embedded + Drop>(
+    alloc: Global,
+    number: u32,
+    bytes: &[u8],
+) -> Result<Run<M>, NoMemory>
+    ensures { IfOk result (λ ms. ms ≡ each_of M.read_of number (fields 0 bytes.now)) }
+{
+    let mut all = Run::new(alloc);
+    let mut texts = Payloads::new(number, bytes);
+    while let Some(text) = texts.next() {
+        let message = M::read(alloc, text)?;
+        match all.push(message) {
+            Ok(()) => {}
+            Err(_) => return Err(NoMemory),
+        }
+    }
+    Ok(all)
+}
+
+pub(crate) fn low_signed(n: u64) -> i32
+    ensures { result ≡ int32 n }
+{
+    ((n % (1 << 32)) as u32).cast_signed()
+}
+
+fn signed(n: u64) -> i64
+    ensures { result ≡ int64 n }
+{
+    n.cast_signed()
+}
+
+// A value from its fields.
+fn value_of(alloc: Global, source: Source) -> Result<Value, NoMemory>
+    ensures { IfOk result (λ v. v ≡ kv_value (source_fields source.entry)) }
+{
+    Ok(Value {
+        bytes: Bytes::copy_of(alloc, source.bytes(1))?,
+        encoding: low_signed(source.number(2)),
+    })
+}
+
+// The value of a number, if it is given, from all its pieces.
+fn given_value(alloc: Global, number: u32, bytes: &[u8]) -> Result<Option<Value>, NoMemory>
+    ensures { IfOk result (λ v. v ≡ one_of kv_value number (fields 0 bytes.now)) }
+{
+    match Payloads::new(number, bytes).next() {
+        None => Ok(None),
+        Some(_) => Ok(Some(value_of(alloc, Source::Pieces(number, bytes))?)),
+    }
+}
+
+// An entry from its fields.
+fn entry_of(alloc: Global, source: Source) -> Result<KvEntry, NoMemory>
+    ensures { IfOk result (λ e. e ≡ kv_entry (source_fields source.entry)) }
+{
+    Ok(KvEntry {
+        key: Bytes::copy_of(alloc, source.bytes(1))?,
+        value: Bytes::copy_of(alloc, source.bytes(2))?,
+        encoding: low_signed(source.number(3)),
+        versionstamp: Bytes::copy_of(alloc, source.bytes(4))?,
+    })
+}
+
+// The entry of a number, if it is given, from all its pieces.
+fn given_entry(alloc: Global, number: u32, bytes: &[u8]) -> Result<Option<KvEntry>, NoMemory>
+    ensures { IfOk result (λ e. e ≡ one_of kv_entry number (fields 0 bytes.now)) }
+{
+    match Payloads::new(number, bytes).next() {
+        None => Ok(None),
+        Some(_) => Ok(Some(entry_of(alloc, Source::Pieces(number, bytes))?)),
+    }
+}
+
+impl Embedded for ReadRange {
+    ghost use Rattle.dkv_msgs.specs.Messages.{read_range};
+
+    ghost read_of = { read_range };
+
+    fn read(alloc: Global, bytes: &[u8]) -> Result<ReadRange, NoMemory> {
+        Ok(ReadRange {
+            start: Bytes::copy_of(alloc, last_bytes(&[], 1, bytes))?,
+            end: Bytes::copy_of(alloc, last_bytes(&[], 2, bytes))?,
+            limit: low_signed(last_number(0, 3, bytes)),
+            reverse: last_number(0, 4, bytes) != 0,
+        })
+    }
+}
+
+impl Embedded for Check {
+    ghost use Rattle.dkv_msgs.specs.Messages.{check};
+
+    ghost read_of = { check };
+
+    fn read(alloc: Global, bytes: &[u8]) -> Result<Check, NoMemory> {
+        Ok(Check {
+            key: Bytes::copy_of(alloc, last_bytes(&[], 1, bytes))?,
+            versionstamp: Bytes::copy_of(alloc, last_bytes(&[], 2, bytes))?,
+        })
+    }
+}
+
+impl Embedded for Mutation {
+    ghost use Rattle.dkv_msgs.specs.Messages.{mutation};
+
+    ghost read_of = { mutation };
+
+    fn read(alloc: Global, bytes: &[u8]) -> Result<Mutation, NoMemory> {
+        Ok(Mutation {
+            key: Bytes::copy_of(alloc, last_bytes(&[], 1, bytes))?,
+            value: given_value(alloc, 2, bytes)?,
+            kind: low_signed(last_number(0, 3, bytes)),
+            expire_at_ms: signed(last_number(0, 4, bytes)),
+        })
+    }
+}
+
+impl Embedded for Enqueue {
+    ghost use Rattle.dkv_msgs.specs.Messages.{enqueue};
+
+    ghost read_of = { enqueue };
+
+    fn read(alloc: Global, bytes: &[u8]) -> Result<Enqueue, NoMemory> {
+        Ok(Enqueue {
+            payload: Bytes::copy_of(alloc, last_bytes(&[], 1, bytes))?,
+            deadline_ms: signed(last_number(0, 2, bytes)),
+            undelivered: all_bytes(alloc, 3, bytes)?,
+            backoff: numbers(alloc, 4, bytes)?,
+        })
+    }
+}
+
+// A watched key.
+impl Embedded for Bytes {
+    ghost use Rattle.dkv_msgs.specs.Messages.{watch_key};
+
+    ghost read_of = { watch_key };
+
+    fn read(alloc: Global, bytes: &[u8]) -> Result<Bytes, NoMemory> {
+        Bytes::copy_of(alloc, last_bytes(&[], 1, bytes))
+    }
+}
+
+impl Embedded for KvEntry {
+    ghost use Rattle.dkv_msgs.specs.Messages.{kv_entry};
+
+    ghost read_of = { kv_entry };
+
+    fn read(alloc: Global, bytes: &[u8]) -> Result<KvEntry, NoMemory> {
+        entry_of(alloc, Source::Whole(bytes))
+    }
+}
+
+// The entries of one range.
+impl Embedded for Run<KvEntry> {
+    ghost use Rattle.dkv_msgs.specs.Messages.{range_output};
+
+    ghost read_of = { range_output };
+
+    fn read(alloc: Global, bytes: &[u8]) -> Result<Run<KvEntry>, NoMemory> {
+        each(alloc, 1, bytes)
+    }
+}
+
+impl Embedded for WatchKeyOutput {
+    ghost use Rattle.dkv_msgs.specs.Messages.{watch_key_output};
+
+    ghost read_of = { watch_key_output };
+
+    fn read(alloc: Global, bytes: &[u8]) -> Result<WatchKeyOutput, NoMemory> {
+        Ok(WatchKeyOutput {
+            changed: last_number(0, 1, bytes) != 0,
+            entry: given_entry(alloc, 2, bytes)?,
+        })
+    }
+}

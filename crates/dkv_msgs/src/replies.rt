@@ -1,0 +1,70 @@
+//! What the database answers, as the reply that is sent.
+
+ghost use Rattle.std.specs.Prelude.{◌≡◌, IfOk};
+ghost use Rattle.dkv_base.specs.Pipe.{spell_entry, spell_entries, spell_read, spell_written, spell_fails};
+
+use crate::write_fields::{Spelled, add_bytes, add_messages, add_number, add_numbers, add_signed};
+use dkv_base::{Bytes, Entry, NoMemory, Run};
+use dkv_key::stamp_of;
+use dkv_wire::Out;
+use std::alloc::Global;
+
+/// An entry is told with the stamp of the commit that wrote it.
+impl Spelled for Entry {
+    ghost spelling = { λ e. spell_entry e };
+
+    ghost fits = { λ _. Unit {0} };
+
+    fn spell(&self, alloc: Global) -> Result<Bytes, NoMemory> {
+        let mut out = Out::new(alloc);
+        add_bytes(&mut out, 1, self.key.as_slice())?;
+        add_bytes(&mut out, 2, self.bytes.as_slice())?;
+        add_signed(&mut out, 3, i64::from(self.encoding))?;
+        add_bytes(&mut out, 4, &stamp_of(self.commit))?;
+        Ok(out.finish())
+    }
+}
+
+/// The entries of one range.
+impl Spelled for Run<Entry> {
+    ghost spelling = { λ es. spell_entries es };
+
+    ghost fits = { λ _. Unit {0} };
+
+    fn spell(&self, alloc: Global) -> Result<Bytes, NoMemory> {
+        let mut out = Out::new(alloc);
+        add_messages(alloc, &mut out, 1, self.as_slice())?;
+        Ok(out.finish())
+    }
+}
+
+/// The reply to a read: the entries of each range, strongly consistent, with status 1.
+pub fn read_reply(alloc: Global, ranges: Run<Run<Entry>>) -> Result<Bytes, NoMemory>
+    ensures { IfOk result (λ b. b ≡ spell_read ranges) }
+{
+    let mut out = Out::new(alloc);
+    add_messages(alloc, &mut out, 1, ranges.as_slice())?;
+    add_number(&mut out, 4, 1)?;
+    add_number(&mut out, 8, 1)?;
+    Ok(out.finish())
+}
+
+/// The reply to a write that was made as commit n: status 1 and the commit's stamp.
+pub fn written_reply(alloc: Global, n: u64) -> Result<Bytes, NoMemory>
+    ensures { IfOk result (λ b. b ≡ spell_written n) }
+{
+    let mut out = Out::new(alloc);
+    add_number(&mut out, 1, 1)?;
+    add_bytes(&mut out, 2, &stamp_of(n))?;
+    Ok(out.finish())
+}
+
+/// The reply to a write whose checks at these places failed: status 2 and the places.
+pub fn fails_reply(alloc: Global, failed: Run<u32>) -> Result<Bytes, NoMemory>
+    ensures { IfOk result (λ b. b ≡ spell_fails failed) }
+{
+    let mut out = Out::new(alloc);
+    add_number(&mut out, 1, 2)?;
+    add_numbers(alloc, &mut out, 4, failed.as_slice())?;
+    Ok(out.finish())
+}
