@@ -1,0 +1,5 @@
+mod Rows
+pub mod Bits
+pub mod Exact
+pub mod Shape
+pub mod Checked
