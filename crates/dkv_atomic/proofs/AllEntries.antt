@@ -1,0 +1,63 @@
+-- Tests of all entries, and lengths, after a put and a removal.
+use Rattle.std.proofs.Common.{◌≡◌, ◌+◌, ◌≤◌, Bool, true, false, cond, not, List, [], ◌∷◌, length, map, filter, refl, arith}
+use Rattle.std.specs.Prelude.{fold, bytes_eq}
+use Rattle.std.specs.List.{list_all}
+use Rattle.std.specs.Ordering.{match_ordering}
+use Rattle.std.specs.declared.cmp.Ordering.TheVariants.{Less, Equal, Greater}
+use Rattle.std.proofs.lemmas.Bool.{and_parts, and_from}
+use Rattle.dkv_base.specs.declared.types.Entry.{Entry}
+use Rattle.dkv_base.specs.State.{put, without, key_cmp}
+
+pub all-filter : {X : Type 0} (q p : X → Bool) (xs : List X) → list_all q xs ≡ true → list_all q (filter p xs) ≡ true
+all-filter q p [] h = refl
+all-filter q p (x ∷ xs) h =
+    let parts = and_parts (q x) (list_all q xs) h in
+    elim (p x) as (λ b. list_all q (cond b (x ∷ filter p xs) (filter p xs)) ≡ true) [
+      | true ↦ and_from (q x) _ parts.0 (all-filter q p xs parts.1)
+      | false ↦ all-filter q p xs parts.1
+    ]
+
+pub all_of_filter : {X : Type 0} (p : X → Bool) (xs : List X) → list_all p (filter p xs) ≡ true
+all_of_filter p [] = refl
+all_of_filter p (x ∷ xs) =
+    elim (p x) as (λ b. p x ≡ b → list_all p (cond b (x ∷ filter p xs) (filter p xs)) ≡ true) [
+      | true ↦ λ is. and_from (p x) _ is (all_of_filter p xs)
+      | false ↦ λ is. all_of_filter p xs
+    ] refl
+
+pub all-put : (q : Entry → Bool) (e : Entry) (es : List Entry) → q e ≡ true → list_all q es ≡ true → list_all q (put e es) ≡ true
+all-put q e [] a h = and_from (q e) true a refl
+all-put q e (f ∷ fs) a h =
+    let parts = and_parts (q f) (list_all q fs) h in
+    elim (key_cmp e.key f.key) as (λ r. list_all q (match_ordering r (e ∷ f ∷ fs) (e ∷ fs) (f ∷ put e fs)) ≡ true) [
+      | Less ↦ and_from (q e) _ a h
+      | Equal ↦ and_from (q e) _ a parts.1
+      | Greater ↦ and_from (q f) _ parts.0 (all-put q e fs a parts.1)
+    ]
+
+pub all-puts : (q : Entry → Bool) (ps es : List Entry) → list_all q ps ≡ true → list_all q es ≡ true → list_all q (fold (λ fs p. put p fs) es ps) ≡ true
+all-puts q [] es a h = h
+all-puts q (p ∷ ps) es a h = let parts = and_parts (q p) (list_all q ps) a in all-puts q ps (put p es) parts.1 (all-put q p es parts.0 h)
+
+pub length-put : (e : Entry) (es : List Entry) → length (put e es) ≤ length es + 1
+length-put e [] = omega arith
+length-put e (f ∷ fs) =
+    let rest = length-put e fs in
+    elim (key_cmp e.key f.key) as (λ r. length (match_ordering r (e ∷ f ∷ fs) (e ∷ fs) (f ∷ put e fs)) ≤ length (f ∷ fs) + 1) [
+      | Less ↦ omega arith
+      | Equal ↦ omega arith
+      | Greater ↦ omega arith
+    ]
+
+pub length-fewer : {X : Type 0} (p : X → Bool) (xs : List X) → length (filter p xs) ≤ length xs
+length-fewer p [] = omega arith
+length-fewer p (x ∷ xs) =
+    let rest = length-fewer p xs in
+    elim (p x) as (λ b. length (cond b (x ∷ filter p xs) (filter p xs)) ≤ length (x ∷ xs)) [
+      | true ↦ omega arith
+      | false ↦ omega arith
+    ]
+
+pub all-removed : (q : Entry → Bool) (gs es : List Entry) → list_all q es ≡ true → list_all q (fold (λ fs key. without key fs) es (map (λ g. g.key) gs)) ≡ true
+all-removed q [] es h = h
+all-removed q (g ∷ gs) es h = all-removed q gs (without g.key es) (all-filter q (λ e. not (bytes_eq g.key e.key)) es h)

@@ -1,0 +1,17 @@
+use Rattle.std.proofs.Common.{◌≡◌, true, sym, ap, ◌∙◌}
+use Rattle.dkv_base.specs.State.{entry_at, visible, is_in_key_order}
+use Rattle.dkv_atomic.specs.Overlays.{Changes}
+use Rattle.dkv_atomic.proofs.Lookups.{found_gone, found_left}
+use Rattle.dkv_atomic.proofs.overlay.Overlay.left.Goals as goal
+
+pub returns-in-Some : goal.returns-in-Some
+returns-in-Some g c =
+    let order : is_in_key_order c.args.self.now.puts ≡ true = ap (λ (v : Changes). is_in_key_order v.puts) (sym c.self.view_is) ∙ c.self.inside.puts.ordered in
+    found_gone c.args.key.now c.args.self.now (visible c.args.at (g.T.Table.content c.args.table.now)) order (sym c.requires) c.in-Some.field-0.now
+    (c.in-Some.ensures ∙ ap (λ (v : Changes). entry_at c.args.key.now v.gone) c.self.view_is)
+
+pub returns-in-None : goal.returns-in-None
+returns-in-None g c =
+    let order : is_in_key_order c.args.self.now.puts ≡ true = ap (λ (v : Changes). is_in_key_order v.puts) (sym c.self.view_is) ∙ c.self.inside.puts.ordered in
+    c.seen_at.ensures ∙ found_left c.args.key.now c.args.self.now (visible c.args.at (g.T.Table.content c.args.table.now)) order (sym c.requires)
+    (c.in-None.ensures ∙ ap (λ (v : Changes). entry_at c.args.key.now v.gone) c.self.view_is)

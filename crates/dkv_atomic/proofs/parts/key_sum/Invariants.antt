@@ -1,0 +1,7 @@
+use Rattle.std.proofs.Common.{◌≡◌, take}
+use Rattle.std.specs.Prelude.{sum_by}
+use Rattle.dkv_atomic.specs.Sums.{capped}
+use Rattle.dkv_atomic.proofs.parts.key_sum.Given as goal
+
+abbrev pub invariant-loop-part : goal.invariant-loop-part
+invariant-loop-part g l = l.sum ≡ capped (sum_by g.T.Counted.keys (take l.part-index l.parts))

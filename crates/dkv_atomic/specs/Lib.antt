@@ -1,0 +1,4 @@
+pub mod Sums
+pub mod Decisions
+pub mod Overlays
+pub mod Numbers

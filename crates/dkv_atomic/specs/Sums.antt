@@ -1,0 +1,5 @@
+-- Sums of lengths, which stop at the last value of a u64.
+use Rattle.std.specs.Prelude.{ℕ, ◌-◌, ◌^◌, min}
+
+abbrev pub capped : ℕ → ℕ
+capped n = min n (2 ^ 64 - 1)

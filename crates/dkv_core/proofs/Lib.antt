@@ -1,0 +1,4 @@
+mod Endless
+mod Going
+pub mod Replying
+pub mod Running

@@ -1,0 +1,100 @@
+// Steps in order, from what the calls of one step do.
+ghost use Rattle.std.specs.Prelude.{ℕ, ◌≡◌, ◌+◌, ◌-◌, ◌^◌, ◌<◌, ◌≤◌, [], length, map, IsTrue, IfOk, OnOk, OnErr};
+ghost use Rattle.std.specs.List.{list_all};
+ghost use Rattle.dkv_base.specs.declared.types.Ask.TheVariants.{Read, Write};
+ghost use Rattle.dkv_base.specs.Replies.{said};
+ghost use Rattle.dkv_base.specs.Steps.{replies, situation_after};
+ghost use Rattle.dkv_core.specs.Cores.{IsEffective, SameContent, is_plain_write};
+ghost use Rattle.dkv_core.specs.Runs.{is_plain_step, situation_of, StandsFor, IsAnswered, IsStep, IsCutShort};
+
+use crate::reading::push;
+use crate::{Core, Decided};
+use dkv_atomic::read_limits;
+use dkv_base::{Answer, Ask, AtomicWrite, NoMemory, ReadRange, Run, Step};
+use std::alloc::Global;
+
+impl Core {
+    /// The answers to the steps in their order. Takes memory for the answers and for what is stored. Where memory is
+    /// wanting, some first steps were made, and the greatest moment may have risen to the next one's.
+    pub fn run(&mut self, alloc: Global, steps: &[Step]) -> Result<Run<Answer>, NoMemory>
+        requires numbered { self.old.state.number + length steps.now < 2 ^ 64 }
+        requires plain { IsTrue (list_all is_plain_step steps.now) }
+        ensures answers { IfOk result (λ answers. map said answers ≡ replies (situation_of self.old) steps.now []) }
+        ensures leaves { OnOk result (StandsFor (situation_after (situation_of self.old) steps.now []) self.new) }
+        ensures err { OnErr result (IsCutShort self.old steps.now self.new) }
+    {
+        let mut answers = Run::new(alloc);
+        for step in steps {
+            let answer = self.step(alloc, step)?;
+            push(&mut answers, answer)?;
+        }
+        Ok(answers)
+    }
+
+    // One step. Where memory is wanting, nothing is changed.
+    fn step(&mut self, alloc: Global, step: &Step) -> Result<Answer, NoMemory>
+        requires numbered { self.old.state.number < 2 ^ 64 - 1 }
+        requires plain { IsTrue (is_plain_step step.now) }
+        ensures answer { IfOk result (λ answer. IsStep self.old step.now answer self.new) }
+        ensures next { self.new.state.number ≤ self.old.state.number + 1 }
+        ensures err { OnErr result (SameContent self.old self.new) }
+    {
+        let at = self.moment(step.at);
+        match &step.ask {
+            Ask::Read(ranges) => self.answer_read(alloc, ranges.as_slice(), at),
+            Ask::Write(write) => self.answer_write(alloc, step.who, at, write),
+            Ask::Watch(_) | Ask::Poll | Ask::Take | Ask::Settle { .. } => unreachable!(),
+        }
+    }
+
+    // The answer to a read at an effective moment.
+    fn answer_read(
+        &mut self,
+        alloc: Global,
+        ranges: &[ReadRange],
+        at: u64,
+    ) -> Result<Answer, NoMemory>
+        requires { IsEffective self.old at }
+        ensures answer { IfOk result (λ answer. (who : ℕ) → IsAnswered self.old who at (Read ranges.now) answer self.new) }
+        ensures state { self.new.state ≡ self.old.state }
+        ensures err { OnErr result (SameContent self.old self.new) }
+    {
+        if let Some(limit) = read_limits(ranges) {
+            return Ok(Answer::Limit(limit));
+        }
+        let entries = self.read(alloc, ranges, at)?;
+        self.raise(at);
+        Ok(Answer::Entries(entries))
+    }
+
+    // The answer to a write at an effective moment.
+    fn answer_write(
+        &mut self,
+        alloc: Global,
+        who: u32,
+        at: u64,
+        write: &AtomicWrite,
+    ) -> Result<Answer, NoMemory>
+        requires effective { IsEffective self.old at }
+        requires numbered { self.old.state.number < 2 ^ 64 - 1 }
+        requires plain { IsTrue (is_plain_write write.now) }
+        ensures answer { IfOk result (λ answer. IsAnswered self.old who at (Write write.now) answer self.new) }
+        ensures next { self.new.state.number ≤ self.old.state.number + 1 }
+        ensures err { OnErr result (SameContent self.old self.new) }
+    {
+        match self.prepare(alloc, who, at, write)? {
+            Decided::Limit(limit) => Ok(Answer::Limit(limit)),
+            Decided::Fails(places) => {
+                self.raise(at);
+                Ok(Answer::Fails(places))
+            }
+            Decided::NotU64 { index } => {
+                self.raise(at);
+                Ok(Answer::NotU64 { index })
+            }
+            Decided::Goes(prepared) => Ok(Answer::Written {
+                n: self.apply(prepared),
+            }),
+        }
+    }
+}

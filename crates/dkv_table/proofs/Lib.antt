@@ -1,0 +1,6 @@
+pub mod Keys
+pub mod Lists
+mod Places
+pub mod Edits
+mod Ranges
+mod Answering

@@ -1,0 +1,4 @@
+pub mod Walks
+pub mod Rests
+pub mod Places
+pub mod Runs

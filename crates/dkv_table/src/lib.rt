@@ -1,0 +1,21 @@
+//! A table: a finite map from keys to entries, with room that is made ahead.
+//!
+//! The layer above may rely on this: what a table holds is a list of entries in strictly rising key order, each call is
+//! the finite map's, whichever table it is, and a call that takes no memory can't fail.
+#![tactic(auto)]
+
+mod calls;
+mod cursor;
+mod place;
+mod plain;
+mod runs;
+mod table;
+
+pub use calls::{TableAnswer, TableCall};
+pub use cursor::Cursor;
+pub use plain::Plain;
+pub use runs::run_calls;
+pub use table::Table;
+
+#[cfg(test)]
+mod tests;

@@ -1,0 +1,90 @@
+// One vector in key order. A search goes by halves.
+ghost use Rattle.std.specs.Prelude.{◌≡◌, [], IsTrue};
+ghost use Rattle.dkv_base.specs.State.{is_in_key_order};
+
+use crate::place::{first_from, place};
+use crate::{Cursor, Table};
+use dkv_base::{Entry, NoMemory, Run};
+use std::alloc::Global;
+
+/// A table in one sorted vector, against which the others are measured.
+#[derive(Drop)]
+pub struct Plain {
+    entries: Vec<Entry>,
+    ghost ordered: { IsTrue (is_in_key_order entries.items) },
+}
+
+impl Plain {
+    /// Holds nothing, and takes no memory. The allocator is the one that `reserve` takes memory from.
+    pub fn new(alloc: Global) -> Plain
+        ensures content { ⟦<Plain as Table>⟧.content result ≡ [] }
+        ensures spare { ⟦<Plain as Table>⟧.spare result ≡ 0 }
+    {
+        Plain {
+            entries: Vec::new(alloc),
+        }
+    }
+
+    /// Hands the entries on in key order. Takes no memory.
+    pub fn into_entries(self) -> Run<Entry>
+        ensures { result ≡ ⟦<Plain as Table>⟧.content self }
+    {
+        Run::of(self.entries)
+    }
+}
+
+impl Table for Plain {
+    ghost use Rattle.std.specs.Prelude.{◌-◌};
+    ghost use Rattle.std.specs.Vec.{vec_len, vec_capacity};
+
+    ghost content = { λ p. p.entries.items };
+
+    ghost spare = { λ p. vec_capacity p.entries - vec_len p.entries };
+
+    ghost ordered = { λ p. p.ordered };
+
+    fn reserve(&mut self, n: usize) -> Result<(), NoMemory> {
+        match self.entries.reserve(n) {
+            Ok(()) => Ok(()),
+            Err(_) => Err(NoMemory),
+        }
+    }
+
+    fn get(&self, key: &[u8]) -> Option<&Entry> {
+        match place(&self.entries, key) {
+            Ok(at) => Some(&self.entries[at]),
+            Err(_) => None,
+        }
+    }
+
+    fn put(&mut self, entry: Entry) -> Option<Entry> {
+        match place(&self.entries, entry.key.as_slice()) {
+            Ok(at) => Some(std::mem::replace(&mut self.entries[at], entry)),
+            Err(at) => {
+                let _ = self.entries.insert(at, entry);
+                None
+            }
+        }
+    }
+
+    fn remove(&mut self, key: &[u8]) -> Option<Entry> {
+        match place(&self.entries, key) {
+            Ok(at) => Some(self.entries.remove(at)),
+            Err(_) => None,
+        }
+    }
+
+    fn walk(&self, start: &[u8], end: &[u8], reverse: bool) -> Cursor<'_> {
+        let from = first_from(&self.entries, start);
+        let to = first_from(&self.entries, end);
+        if from < to {
+            Cursor::over(&self.entries[from..to], reverse)
+        } else {
+            Cursor::over(&[], reverse)
+        }
+    }
+
+    fn len(&self) -> usize {
+        self.entries.len()
+    }
+}
