@@ -1,0 +1,53 @@
+//! Passes through a lock: each of some threads adds its items to one list, under the turn or under the system's mutex.
+//!
+//! Its words are `turn` or `mutex`, the number of threads, and the number of items that each adds. The script `bench/turn.sh` times it.
+#![tactic(auto)]
+
+mod by_mutex;
+mod by_turn;
+mod tally;
+
+use std::alloc::Global;
+use std::sync::Wait;
+use std::thread::Threads;
+use std::{env, io};
+
+// How many items there are at the end, or nothing where memory is wanting or the lock has no such name.
+fn items_of<R: Threads + Wait + Sync>(
+    rt: &R,
+    alloc: Global,
+    lock: &str,
+    others: u32,
+    rounds: u32,
+) -> Option<usize> {
+    match lock {
+        "turn" => by_turn::total(rt, alloc, others, rounds),
+        "mutex" => Some(by_mutex::total(rt, alloc, others, rounds)),
+        _ => None,
+    }
+}
+
+fn main(rt: HostRuntime) -> io::Result<()> {
+    let mut words = env::args(&rt)?;
+    let _program = words.next();
+    let lock = words.next().unwrap_or(String::new(rt.alloc()));
+    let threads = number(words.next());
+    let rounds = number(words.next());
+    match items_of(
+        &rt,
+        rt.alloc(),
+        lock.as_str(),
+        threads.saturating_sub(1),
+        rounds,
+    ) {
+        Some(items) => println!(rt; "{threads} threads, {rounds} rounds: {items} items"),
+        None => println!(rt; "words: turn or mutex, threads, rounds"),
+    }
+}
+
+fn number(word: Option<String>) -> u32 {
+    match word {
+        Some(digits) => digits.as_str().parse::<u32>().unwrap_or(0),
+        None => 0,
+    }
+}

@@ -1,0 +1,4 @@
+pub mod Sums
+pub mod Prefixes
+pub mod Parts
+pub mod Keeps

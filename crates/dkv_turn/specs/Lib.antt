@@ -1,0 +1,10 @@
+pub mod Weights
+pub mod Histories
+pub mod Views
+pub mod Rule
+pub mod Steps
+pub mod Seats
+pub mod Ends
+pub mod Passes
+pub mod Rests
+pub mod Words

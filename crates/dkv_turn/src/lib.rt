@@ -1,0 +1,21 @@
+//! A ticket lock round one value, whose passes know a beginning of the one history that the value keeps.
+//!
+//! The layer above may rely on this: who has the turn has the value alone; each item is added under the turn, by one pass, and carries its number; what a
+//! pass has seen is a beginning of the history, and has all items of its number. Only `enter` waits, and only `new` takes memory.
+#![tactic(auto)]
+
+mod chronicle;
+mod counts;
+mod pass;
+mod rest;
+mod steps;
+mod turn;
+mod view;
+
+pub use chronicle::Chronicle;
+pub use pass::Pass;
+pub use rest::Rest;
+pub use turn::{Held, Turn};
+
+#[cfg(test)]
+mod tests;
