@@ -1,0 +1,52 @@
+-- What a status says: of which end, by which number, in which line.
+use Rattle.std.specs.Prelude.{ℕ, ◌⊎◌, List, [], ◌∷◌, ◌++◌, codes, decimal}
+use Rattle.std.specs.declared.option.Option.{Option}
+use Rattle.std.specs.Io.KnownBytes.{Appends}
+use Rattle.dkv_io.specs.Streams.{AppendsFront}
+use Rattle.dkv_pipe.specs.declared.pipe.PipeEnd.{PipeEnd}
+use Rattle.dkv_pipe.specs.declared.pipe.PipeEnd.TheVariants as end
+use Rattle.dkv_app.specs.declared.status.Status.{Status}
+use Rattle.dkv_app.specs.declared.status.Status.TheVariants as status
+
+-- the status of a run over frames
+abbrev pub told : PipeEnd → Status
+told end.Ok = status.Ok
+told end.ReadFault = status.ReadFault
+told end.WriteFault = status.WriteFault
+told (end.BadFrame at) = status.BadFrame at
+told (end.NotBuilt at) = status.NotBuilt at
+told end.NoMemory = status.NoMemory
+
+-- P holds of the end that the status tells, or the words were refused
+abbrev pub Tells : Status → (PipeEnd → Type 0) → Type 0 → Type 0
+Tells status.Ok P refused = P end.Ok
+Tells status.BadWords P refused = refused
+Tells status.ReadFault P refused = P end.ReadFault
+Tells status.WriteFault P refused = P end.WriteFault
+Tells (status.BadFrame at) P refused = P (end.BadFrame at)
+Tells status.NoMemory P refused = P end.NoMemory
+Tells (status.NotBuilt at) P refused = P (end.NotBuilt at)
+
+-- the exit status
+abbrev pub number : Status → ℕ
+number status.Ok = 0
+number status.BadWords = 2
+number status.ReadFault = 3
+number status.WriteFault = 4
+number (status.BadFrame at) = 8
+number status.NoMemory = 14
+number (status.NotBuilt at) = 15
+
+-- the line on the error output
+abbrev pub line : Status → List ℕ
+line status.Ok = []
+line status.BadWords = codes "bad words" ++ 10 ∷ []
+line status.ReadFault = codes "read fault" ++ 10 ∷ []
+line status.WriteFault = codes "write fault" ++ 10 ∷ []
+line (status.BadFrame at) = codes "bad frame at " ++ decimal at ++ 10 ∷ []
+line status.NoMemory = codes "no memory" ++ 10 ∷ []
+line (status.NotBuilt at) = codes "not built at " ++ decimal at ++ 10 ∷ []
+
+-- the line is written, or a front of it where the count rose
+abbrev pub Lines : Status → Option (List ℕ) → Option (List ℕ) → Type 0 → Type 0
+Lines s old new rose = Appends old new (line s) ⊎ (rose × AppendsFront old new (line s))

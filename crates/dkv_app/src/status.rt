@@ -1,0 +1,66 @@
+ghost use Rattle.std.specs.Prelude.{◌≡◌};
+
+use dkv_pipe::PipeEnd;
+
+/// How a run of the program ended.
+#[derive(Clone, Copy, Debug, PartialEq, Eq)]
+pub enum Status {
+    /// The input was read to its end.
+    Ok,
+    /// The words are in no form.
+    BadWords,
+    ReadFault,
+    WriteFault,
+    /// No whole frame begins at this place, counted in bytes from the start of the input.
+    BadFrame { at: u64 },
+    NoMemory,
+    /// The frame at this place isn't answered yet.
+    NotBuilt { at: u64 },
+}
+
+impl Status {
+    ghost use Rattle.dkv_app.specs.Statuses.{number, told};
+
+    /// The status of a run over frames.
+    pub fn of(end: PipeEnd) -> Status
+        ensures { result ≡ told end }
+    {
+        match end {
+            PipeEnd::Ok => Status::Ok,
+            PipeEnd::ReadFault => Status::ReadFault,
+            PipeEnd::WriteFault => Status::WriteFault,
+            PipeEnd::BadFrame { at } => Status::BadFrame { at },
+            PipeEnd::NotBuilt { at } => Status::NotBuilt { at },
+            PipeEnd::NoMemory => Status::NoMemory,
+        }
+    }
+
+    /// The exit status of the program.
+    pub fn number(self) -> u8
+        ensures { result ≡ number self }
+    {
+        match self {
+            Status::Ok => 0,
+            Status::BadWords => 2,
+            Status::ReadFault => 3,
+            Status::WriteFault => 4,
+            Status::BadFrame { .. } => 8,
+            Status::NoMemory => 14,
+            Status::NotBuilt { .. } => 15,
+        }
+    }
+}
+
+/// Two files.
+#[derive(Drop)]
+pub struct Pair<D> {
+    pub a: D,
+    pub b: D,
+}
+
+/// A status, and the files that were handed in.
+#[derive(Drop)]
+pub struct Ended<D> {
+    pub status: Status,
+    pub files: Option<Pair<D>>,
+}

@@ -1,0 +1,6 @@
+pub mod Written
+mod Fronts
+mod Runs
+mod One
+mod Spelled
+mod Grants

@@ -1,0 +1,16 @@
+//! The pipe: frames of requests in, frames of replies out, over the database of one thread.
+//!
+//! The layer above may rely on this: where source and sink tell their bytes, what was written is the stated function of
+//! what was read, the end says where the run stopped and why, the core that is given back is where the answered frames lead,
+//! and an input of whole frames has one list of replies.
+#![tactic(auto)]
+
+mod answers;
+mod frames;
+mod input;
+mod laws;
+mod pipe;
+mod replies;
+
+pub use laws::{one_run, whole_frames_begin};
+pub use pipe::{PipeEnd, run_pipe};
