@@ -1,7 +1,7 @@
 use crate::status::{Pair, Status};
 use crate::top::run_once;
 use dkv_base::{AtomicWrite, Bytes, Check, Mutation, ReadRange, Run, Value};
-use dkv_io::{ListRandom, MemorySink, MemorySource, VoidDisk};
+use dkv_io::{Failed, ListRandom, MemorySink, MemorySource, Sink, VoidDisk};
 use dkv_msgs::{SnapshotRead, write_atomic_write, write_snapshot_read};
 use std::alloc::Global;
 use std::test::*;
@@ -87,6 +87,63 @@ fn a_set_is_answered_and_then_read(rt: HostRuntime) -> Result<(), Fail> {
         assert_eq!(rt; end.out.as_slice(), joined(alloc, wanted)?.as_slice());
         assert_eq!(rt; end.errors.len(), 0);
     }
+    Ok(())
+}
+
+// A sink with room for so many bytes: it takes what fits of a write, and then fails.
+#[derive(Drop)]
+struct NarrowSink {
+    bytes: Vec<u8>,
+    room: usize,
+    faults: u64,
+}
+
+impl Sink for NarrowSink {
+    ghost use Rattle.std.specs.Prelude.{Some};
+
+    ghost held = { λ s. Some s.bytes.items };
+
+    ghost faults = { λ s. s.faults };
+
+    fn write(&mut self, bytes: &[u8]) -> Result<(), Failed> {
+        let fits = bytes.len().min(self.room);
+        let taken = self.bytes.extend_from_slice(&bytes[..fits]).is_ok();
+        if taken && fits == bytes.len() {
+            self.room -= fits;
+            return Ok(());
+        }
+        self.faults = self.faults.saturating_add(1);
+        Err(Failed)
+    }
+}
+
+#[test]
+fn a_sink_that_fails_in_mid_reply_has_a_front_of_it(rt: HostRuntime) -> Result<(), Fail> {
+    let alloc = rt.alloc();
+    let mut source = MemorySource::new(joined(alloc, &[SET, READ])?, Vec::new(alloc));
+    let mut sink = NarrowSink {
+        bytes: Vec::new(alloc),
+        room: WRITTEN.len() + 7,
+        faults: 0,
+    };
+    let mut errors = MemorySink::new(alloc, Vec::new(alloc));
+    let mut random = ListRandom::new(Vec::new(alloc));
+    let words = vec![in alloc; String::from_str(alloc, "pipe")?]?;
+    let files: Option<Pair<VoidDisk>> = None;
+    let ended = run_once(
+        alloc,
+        &words,
+        &mut source,
+        &mut sink,
+        &mut errors,
+        files,
+        &mut random,
+    );
+    assert_eq!(rt; ended.status, Status::WriteFault);
+    assert_eq!(rt;
+        sink.bytes.as_slice(),
+        joined(alloc, &[WRITTEN, &FOUND[..7]])?.as_slice()
+    );
     Ok(())
 }
 
@@ -405,8 +462,17 @@ fn a_delete_and_a_set_are_one_commit(rt: HostRuntime) -> Result<(), Fail> {
         &[],
         &[],
     )?;
-    let one: &[u8] = &[0x1f, 0, 0, 0, 0, 0x0a, 0x18];
-    let wanted = joined(alloc, &[one, &told(alloc, b'b', 2)?, &[0x20, 1, 0x40, 1]])?;
-    assert_eq!(rt; end.out.get(38..), Some(wanted.as_slice()));
+    let entry = told(alloc, b'b', 2)?;
+    let wanted = joined(
+        alloc,
+        &[
+            b"\x1f\0\0\0\0\x0a\x18".as_slice(),
+            &entry,
+            b"\x20\x01\x40\x01",
+        ],
+    )?;
+    assert!(rt; end.out.len() >= 38);
+    let read_reply = &end.out[38..];
+    assert_eq!(rt; read_reply, wanted.as_slice());
     Ok(())
 }

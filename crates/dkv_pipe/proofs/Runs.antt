@@ -1,5 +1,5 @@
 -- A run goes on, or ends.
-use Rattle.std.proofs.Common.{◌≡◌, ℕ, ◌+◌, ◌-◌, ◌<◌, ◌^◌, Bool, List, [], ◌∷◌, ◌++◌, length, take, drop, Option, Some, None, refl, sym, ap, subst, ◌∙◌, arith, append_assoc, length-append, inl, inr}
+use Rattle.std.proofs.Common.{◌≡◌, ℕ, ◌+◌, ◌<◌, ◌^◌, Bool, List, [], ◌∷◌, ◌++◌, length, drop, Option, Some, None, refl, sym, ap, subst, ◌∙◌, arith, append_assoc, length-append, inl, inr}
 use Rattle.std.specs.Io.KnownBytes.{Appends, Consumes, IsAtEnd}
 use Rattle.std.proofs.lemmas.List.{append-nil, length-drop}
 use Rattle.dkv_io.specs.Streams.{AppendsFront}
@@ -16,10 +16,10 @@ use Rattle.dkv_pipe.specs.Ends.{AnsweredTo, NoFrame, Ran, RanOver}
 use Rattle.dkv_pipe.specs.declared.pipe.PipeEnd.{PipeEnd}
 use Rattle.dkv_core.specs.Cores as cores
 use Rattle.dkv_core.specs.Cores.{SameContent}
-use Rattle.dkv_core.specs.Runs.{StandsFor, situation_of}
+use Rattle.dkv_core.specs.Runs.{situation_of}
 use Rattle.dkv_pipe.specs.Replies.{Answers}
 use Rattle.dkv_pipe.specs.declared.frames.Head.{Head}
-use Rattle.dkv_pipe.specs.Running.{Running, Ongoing, IsWholeOf, frame_of, body_at}
+use Rattle.dkv_pipe.specs.Running.{Running, Ongoing, IsWholeOf, frame_with, body_at}
 use Rattle.dkv_pipe.proofs.Fronts.{front_more}
 use Rattle.dkv_pipe.proofs.Written.{appends_nothing, appends_then, appends_front_then}
 
@@ -107,10 +107,10 @@ more_on from (Some all) held0 d buffer at (Some xs) held (Some ys) piece is take
     )
 
 -- one more frame is answered
-answered_next : (from : Situation) (read : List ℕ) (at : ℕ) (out buffer : List ℕ) (h : Head) (reply : List ℕ) (d next : cores.Whole) → AnsweredTo from read at out buffer d → IsWholeOf h buffer → Answers d (frame_of h (body_at h.len buffer)) reply next
+answered_next : (from : Situation) (read : List ℕ) (at : ℕ) (out buffer : List ℕ) (h : Head) (reply : List ℕ) (d next : cores.Whole) → AnsweredTo from read at out buffer d → IsWholeOf h buffer → Answers d (frame_with h (body_at h.len buffer)) reply next
     → AnsweredTo from read (at + h.len) (out ++ reply) (drop h.len buffer) next
 answered_next from read at out buffer h reply d next upto w e =
-    let f = frame_of h (body_at h.len buffer) in
+    let f = frame_with h (body_at h.len buffer) in
     let said = e.1 upto.to upto.stands in
     let one = answered_one from read upto.to out buffer f (drop h.len buffer) upto.answered w.whole e.0 in
     record {
@@ -120,7 +120,7 @@ answered_next from read at out buffer h reply d next upto w e =
       place = omega (arith, upto.place, w.most, length-drop h.len buffer);
     }
 
-pub frame_on : (from : Situation) (left0 held0 : Option (List ℕ)) (d next : cores.Whole) (buffer : List ℕ) (at : ℕ) (left held new : Option (List ℕ)) (h : Head) (reply : List ℕ) → Running from left0 held0 d buffer at left held → IsWholeOf h buffer → Answers d (frame_of h (body_at h.len buffer)) reply next → Appends held new reply → Running from left0 held0 next (drop h.len buffer) (at + h.len) left new
+pub frame_on : (from : Situation) (left0 held0 : Option (List ℕ)) (d next : cores.Whole) (buffer : List ℕ) (at : ℕ) (left held new : Option (List ℕ)) (h : Head) (reply : List ℕ) → Running from left0 held0 d buffer at left held → IsWholeOf h buffer → Answers d (frame_with h (body_at h.len buffer)) reply next → Appends held new reply → Running from left0 held0 next (drop h.len buffer) (at + h.len) left new
 frame_on from None held0 d next buffer at left held new h reply is w e grows = tt
 frame_on from (Some all) held0 d next buffer at None held new h reply is w e grows = absurd is
 frame_on from (Some all) held0 d next buffer at (Some xs) held new h reply is w e grows =
@@ -176,13 +176,13 @@ pub cut_ends : (from : Situation) (left0 held0 : Option (List ℕ)) (d : cores.W
 cut_ends from left0 held0 d buffer at left held ended part some last said is =
     bad_frame_ends from left0 held0 d buffer at left held ended (λ rest told. inr (inl (part, some, nothing_left left rest told last, said))) is
 
-pub fault_ends : (from : Situation) (left0 held0 : Option (List ℕ)) (d next : cores.Whole) (buffer : List ℕ) (at : ℕ) (left held new : Option (List ℕ)) (ended : Bool) (h : Head) (reply : List ℕ) → Running from left0 held0 d buffer at left held → IsWholeOf h buffer → Answers d (frame_of h (body_at h.len buffer)) reply next → AppendsFront held new reply → RanOver from end.WriteFault left0 held0 left ended new next
+pub fault_ends : (from : Situation) (left0 held0 : Option (List ℕ)) (d next : cores.Whole) (buffer : List ℕ) (at : ℕ) (left held new : Option (List ℕ)) (ended : Bool) (h : Head) (reply : List ℕ) → Running from left0 held0 d buffer at left held → IsWholeOf h buffer → Answers d (frame_with h (body_at h.len buffer)) reply next → AppendsFront held new reply → RanOver from end.WriteFault left0 held0 left ended new next
 fault_ends from left0 held0 d next buffer at left held new ended h reply is w e grows = ends_as from end.WriteFault left0 held0 d next buffer at left held new ended is (λ read rest told o.
     let n = answered_next from read at o.out buffer h reply d next o.done w e in
     (at + h.len, o.out ++ reply, drop h.len buffer, n, appends_front_then held0 held new o.out reply o.written grows))
 
 -- a frame that isn't built
-pub unbuilt_ends : (from : Situation) (left0 held0 : Option (List ℕ)) (d now : cores.Whole) (buffer : List ℕ) (at : ℕ) (left held : Option (List ℕ)) (ended : Bool) (h : Head) → at < 2 ^ 63 → SameContent d now → Running from left0 held0 d buffer at left held → IsWholeOf h buffer → is_built (frame_of h (body_at h.len buffer)) ≡ false
+pub unbuilt_ends : (from : Situation) (left0 held0 : Option (List ℕ)) (d now : cores.Whole) (buffer : List ℕ) (at : ℕ) (left held : Option (List ℕ)) (ended : Bool) (h : Head) → at < 2 ^ 63 → SameContent d now → Running from left0 held0 d buffer at left held → IsWholeOf h buffer → is_built (frame_with h (body_at h.len buffer)) ≡ false
     → RanOver from (end.NotBuilt at) left0 held0 left ended held now
 unbuilt_ends from left0 held0 d now buffer at left held ended h early same is w none = ends_as from (end.NotBuilt at) left0 held0 d now buffer at left held held ended is (λ read rest told o.
-    (o.out, buffer, same_stands from read at o.out buffer d now same o.done, early, (frame_of h (body_at h.len buffer), drop h.len buffer, w.whole, none), o.written))
+    (o.out, buffer, same_stands from read at o.out buffer d now same o.done, early, (frame_with h (body_at h.len buffer), drop h.len buffer, w.whole, none), o.written))

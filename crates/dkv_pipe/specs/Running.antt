@@ -16,8 +16,8 @@ use Rattle.dkv_pipe.specs.declared.pipe.Step.{Step}
 use Rattle.dkv_pipe.specs.declared.pipe.Step.TheVariants as step
 
 -- the frame with this head and body
-abbrev pub frame_of : Head → List ℕ → PipeFrame
-frame_of h body = record { caller = h.caller; moment = h.moment; kind = h.kind; body = body }
+abbrev pub frame_with : Head → List ℕ → PipeFrame
+frame_with h body = record { caller = h.caller; moment = h.moment; kind = h.kind; body = body }
 
 -- the body of a frame of this length at the front
 abbrev pub body_at : ℕ → List ℕ → List ℕ
@@ -25,7 +25,7 @@ body_at len bytes = take (len - 17) (drop 17 bytes)
 
 -- a whole frame with this head stands at the front
 pub record IsWholeOf (h : Head) (bytes : List ℕ) : Type 0 where
-  pub whole : front bytes ≡ frames.Whole (frame_of h (body_at h.len bytes)) (drop h.len bytes)
+  pub whole : front bytes ≡ frames.Whole (frame_with h (body_at h.len bytes)) (drop h.len bytes)
   pub least : 17 ≤ h.len
   pub most : h.len ≤ length bytes
 

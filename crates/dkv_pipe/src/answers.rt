@@ -6,7 +6,7 @@ ghost use Rattle.dkv_msgs.specs.Readings.{readings};
 ghost use Rattle.dkv_core.specs.Cores.{SameContent, is_plain_write};
 ghost use Rattle.dkv_pipe.specs.Built.{is_built, is_built_write};
 ghost use Rattle.dkv_pipe.specs.Replies.{Answers, Grants};
-ghost use Rattle.dkv_pipe.specs.Running.{frame_of};
+ghost use Rattle.dkv_pipe.specs.Running.{frame_with};
 
 use crate::frames::Head;
 use crate::replies::{limited, malformed, reply_frame};
@@ -157,8 +157,8 @@ pub(crate) fn answer(
     body: &[u8],
 ) -> Result<Bytes, Unanswered>
     requires { core.old.state.number < 2 ^ 64 - 1 }
-    ensures ok { IfOk result (λ out. Answers core.old (frame_of head body.now) out core.new) }
-    ensures unbuilt { IsErrOf result Unanswered.NotBuilt → is_built (frame_of head body.now) ≡ false }
+    ensures ok { IfOk result (λ out. Answers core.old (frame_with head body.now) out core.new) }
+    ensures unbuilt { IsErrOf result Unanswered.NotBuilt → is_built (frame_with head body.now) ≡ false }
     ensures next { core.new.state.number ≤ core.old.state.number + 1 }
     ensures same { OnErr result (SameContent core.old core.new) }
 {

@@ -1,5 +1,4 @@
-use Rattle.std.proofs.Common.{◌≡◌, ◌+◌, ℕ, sym, ap, subst, ◌∙◌, take, drop, get_or, length, rules, arith}
-use Rattle.std.specs.Int.{w32, w64, from_le_bytes}
+use Rattle.std.proofs.Common.{◌≡◌, ◌+◌, sym, subst, get_or, rules, arith}
 use Rattle.dkv_pipe.specs.Frames.{length_at}
 use Rattle.dkv_pipe.specs.declared.frames.Head.{Head}
 use Rattle.dkv_pipe.specs.Running.{IsWholeOf}
