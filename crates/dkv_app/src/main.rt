@@ -41,7 +41,7 @@ fn main(rt: HostRuntime) -> ExitCode {
         &mut StdSink::new(rt.stdout()),
         &mut StdSink::new(rt.stderr()),
         files,
-        &mut ListRandom::new(Vec::new(alloc)),
+        &mut ListRandom::new(Vec::new(alloc), Vec::new(alloc)),
     );
     ExitCode::from(ended.status.number())
 }

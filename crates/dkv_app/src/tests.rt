@@ -45,7 +45,7 @@ fn run(
     let mut source = MemorySource::new(input.to_vec(alloc)?, source_fails.to_vec(alloc)?);
     let mut sink = MemorySink::new(alloc, sink_fails.to_vec(alloc)?);
     let mut errors = MemorySink::new(alloc, Vec::new(alloc));
-    let mut random = ListRandom::new(Vec::new(alloc));
+    let mut random = ListRandom::new(Vec::new(alloc), Vec::new(alloc));
     let words = vec![in alloc; String::from_str(alloc, word)?]?;
     let files: Option<Pair<VoidDisk>> = None;
     let ended = run_once(
@@ -127,7 +127,7 @@ fn a_sink_that_fails_in_mid_reply_has_a_front_of_it(rt: HostRuntime) -> Result<(
         faults: 0,
     };
     let mut errors = MemorySink::new(alloc, Vec::new(alloc));
-    let mut random = ListRandom::new(Vec::new(alloc));
+    let mut random = ListRandom::new(Vec::new(alloc), Vec::new(alloc));
     let words = vec![in alloc; String::from_str(alloc, "pipe")?]?;
     let files: Option<Pair<VoidDisk>> = None;
     let ended = run_once(
