@@ -49,8 +49,9 @@ done
 for frames in 1000 5000; do
     writes 1 65536 "$frames"
 done
-for kind in read range set sum; do
-    for keys in 1000 100000; do
-        over "$kind" "$keys" 20000
-    done
+for keys in 1000 100000; do
+    over read "$keys" 500000
+    over range "$keys" 20000
+    over set "$keys" 500000
+    over sum "$keys" 500000
 done
