@@ -7,33 +7,7 @@ use Rattle.std.specs.declared.cmp.Ordering.TheVariants.{Less, Equal, Greater}
 use Rattle.std.proofs.lemmas.Bool.{and_parts, and_from}
 use Rattle.dkv_base.specs.declared.types.Entry.{Entry}
 use Rattle.dkv_base.specs.State.{put, without, key_cmp}
-
-pub all-filter : {X : Type 0} (q p : X → Bool) (xs : List X) → list_all q xs ≡ true → list_all q (filter p xs) ≡ true
-all-filter q p [] h = refl
-all-filter q p (x ∷ xs) h =
-    let parts = and_parts (q x) (list_all q xs) h in
-    elim (p x) as (λ b. list_all q (cond b (x ∷ filter p xs) (filter p xs)) ≡ true) [
-      | true ↦ and_from (q x) _ parts.0 (all-filter q p xs parts.1)
-      | false ↦ all-filter q p xs parts.1
-    ]
-
-pub all_of_filter : {X : Type 0} (p : X → Bool) (xs : List X) → list_all p (filter p xs) ≡ true
-all_of_filter p [] = refl
-all_of_filter p (x ∷ xs) =
-    elim (p x) as (λ b. p x ≡ b → list_all p (cond b (x ∷ filter p xs) (filter p xs)) ≡ true) [
-      | true ↦ λ is. and_from (p x) _ is (all_of_filter p xs)
-      | false ↦ λ is. all_of_filter p xs
-    ] refl
-
-pub all-put : (q : Entry → Bool) (e : Entry) (es : List Entry) → q e ≡ true → list_all q es ≡ true → list_all q (put e es) ≡ true
-all-put q e [] a h = and_from (q e) true a refl
-all-put q e (f ∷ fs) a h =
-    let parts = and_parts (q f) (list_all q fs) h in
-    elim (key_cmp e.key f.key) as (λ r. list_all q (match_ordering r (e ∷ f ∷ fs) (e ∷ fs) (f ∷ put e fs)) ≡ true) [
-      | Less ↦ and_from (q e) _ a h
-      | Equal ↦ and_from (q e) _ a parts.1
-      | Greater ↦ and_from (q f) _ parts.0 (all-put q e fs a parts.1)
-    ]
+use Rattle.dkv_base.proofs.StaysSound.{all-filter, all-put}
 
 pub all-puts : (q : Entry → Bool) (ps es : List Entry) → list_all q ps ≡ true → list_all q es ≡ true → list_all q (fold (λ fs p. put p fs) es ps) ≡ true
 all-puts q [] es a h = h

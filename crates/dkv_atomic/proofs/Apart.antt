@@ -12,7 +12,7 @@ use Rattle.dkv_table.proofs.Keys.{eq-same, eq-above}
 use Rattle.dkv_table.proofs.Lists.{all_weaker}
 use Rattle.dkv_atomic.specs.Overlays.{Changes, is_apart}
 use Rattle.dkv_atomic.proofs.Lookups.{eq-turned}
-use Rattle.dkv_atomic.proofs.AllEntries.{all-put}
+use Rattle.dkv_base.proofs.StaysSound.{all-put}
 
 pub apart-put : (e : Entry) (c : Changes) → is_apart c.puts c.gone ≡ true → is_apart (put e c.puts) (without e.key c.gone) ≡ true
 apart-put e c apart =

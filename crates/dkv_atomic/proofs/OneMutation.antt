@@ -13,7 +13,8 @@ use Rattle.dkv_base.proofs.KeyOrder.{is_in_key_order-filter}
 use Rattle.dkv_table.proofs.Lists.{filter-all}
 use Rattle.dkv_atomic.specs.Overlays.{Changes, overlaid, with_put, with_gone, IsStep}
 use Rattle.dkv_atomic.proofs.Lookups.{overlaid-put, overlaid-gone, order-overlaid, put_unseen}
-use Rattle.dkv_atomic.proofs.AllEntries.{all-filter, all_of_filter, all-put, all-puts, all-removed, length-put, length-fewer}
+use Rattle.dkv_base.proofs.StaysSound.{all-filter, all_of_filter, all-put}
+use Rattle.dkv_atomic.proofs.AllEntries.{all-puts, all-removed, length-put, length-fewer}
 
 -- what is behind the changes can be seen
 all_seen : (t : ℕ) (c : Changes) (es : List Entry) → list_all (is_visible t) c.puts ≡ true → list_all (is_visible t) (overlaid c (visible t es)) ≡ true

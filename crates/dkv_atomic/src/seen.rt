@@ -6,8 +6,8 @@ ghost use Rattle.dkv_base.specs.State.{entry_at, visible, is_visible};
 use dkv_base::Entry;
 use dkv_table::Table;
 
-/// Whether the entry has not ended at the moment.
-pub(crate) fn is_seen(entry: &Entry, at: u64) -> bool
+/// Whether the entry has not ended at the moment, in milliseconds since 1970. Takes no memory.
+pub fn is_seen(entry: &Entry, at: u64) -> bool
     ensures { result ≡ is_visible at entry.now }
 {
     entry.expire == 0 || at < entry.expire

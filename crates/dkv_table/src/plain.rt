@@ -84,6 +84,10 @@ impl Table for Plain {
         }
     }
 
+    fn all(&self) -> Cursor<'_> {
+        Cursor::over(&self.entries, false)
+    }
+
     fn len(&self) -> usize {
         self.entries.len()
     }

@@ -43,6 +43,10 @@ pub trait Table {
     fn walk(&self, start: &[u8], end: &[u8], reverse: bool) -> Cursor<'_>
         ensures { result ≡ walked start.now end.now reverse (content self.now) };
 
+    /// Goes over all entries, up. Takes no memory.
+    fn all(&self) -> Cursor<'_>
+        ensures { result ≡ content self.now };
+
     /// The number of entries.
     fn len(&self) -> usize
         ensures { result ≡ length (content self.now) };
