@@ -1,0 +1,11 @@
+use Rattle.std.proofs.Common.{◌≡◌, IsTrue}
+use Rattle.dkv_index.specs.Orders.{found, is_rising}
+use Rattle.dkv_index.specs.Trees.{items_of}
+use Rattle.dkv_index.proofs.searches.look_up.Given as goal
+
+-- what is left is in order, and has the answer
+abbrev pub invariant-loop-rest : goal.invariant-loop-rest
+invariant-loop-rest g l =
+    let cmp = g.T.Ranked.rank in
+    let x = g.P.Probe.stands_for l.probe in
+    IsTrue (is_rising cmp (items_of l.rest)) × (found cmp x (items_of l.rest) ≡ found cmp x (items_of l.tree))
