@@ -1,0 +1,8 @@
+pub mod Ids
+pub mod Looks
+pub mod Changes
+mod Counts
+mod Keeps
+mod Firsts
+mod Failures
+mod Copies

@@ -1,0 +1,98 @@
+-- The messages that wait for delivery or are out.
+--     Rows      what contracts see of a queue: a row for each message in rising order of ids, and how many more find room
+--     messages_of rows, row_at id rows, message_at id rows      the messages; the row of an id, and its message
+--     is_taken id rows, waits id rows, waiting_of rows      whether the message is out, or waits; the messages that aren't out
+--     due_at at rows, next_moment rows      the message that is due first, if it is due; when the first one is due
+--     next_row id rows      the first row above an id, or the first of all
+--     added m rows, taken id rows, settled id rows, failed id at rows      the rows after each change
+--     has_schedule m      whether the message has 1 to 10 intervals, and has not failed more often
+use Rattle.std.specs.Prelude.{ℕ, ◌+◌, Bool, true, false, not, ◌&&◌, nat_le, ◌==◌, if◌then◌else◌, List, length, map, filter, filter_map, find, Option, Some, None, option_map}
+use Rattle.std.specs.Option.{option_map_or}
+use Rattle.std.specs.List.{list_any}
+use Rattle.std.specs.Ordering.{is_lt}
+use Rattle.std.specs.declared.cmp.Ordering.{Ordering}
+use Rattle.dkv_base.specs.declared.types.Message.{Message}
+use Rattle.dkv_base.specs.declared.types.MsgId.{MsgId}
+use Rattle.dkv_base.specs.State.{id_cmp, same_id}
+use Rattle.dkv_base.specs.Messages.{interval}
+use Rattle.dkv_base.specs.Trails.{first_due}
+use Rattle.dkv_index.specs.Orders.{put_in}
+use Rattle.dkv_queue.specs.declared.row.Row.{Row}
+
+-- a row for each message in rising order of ids, and how many more find room without memory
+pub record Rows : Type 0 where
+  pub rows : List Row
+  pub spare : ℕ
+
+-- rows by the ids of their messages
+abbrev pub row_cmp : Row → Row → Ordering
+row_cmp r s = id_cmp r.message.id s.message.id
+
+-- the row of the message with this id
+abbrev pub is_row_of : MsgId → Row → Bool
+is_row_of id r = same_id id r.message.id
+
+-- the messages in rising order of ids
+abbrev pub messages_of : List Row → List Message
+messages_of rows = map (λ r. r.message) rows
+
+-- the row of the id
+abbrev pub row_at : MsgId → List Row → Option Row
+row_at id rows = find (is_row_of id) rows
+
+-- the message of the id
+abbrev pub message_at : MsgId → List Row → Option Message
+message_at id rows = option_map (λ r. r.message) (row_at id rows)
+
+-- the message of the id is out
+abbrev pub is_taken : MsgId → List Row → Bool
+is_taken id rows = list_any (λ r. is_row_of id r && r.out) rows
+
+-- the message of the id is there, and not out
+abbrev pub waits : MsgId → List Row → Bool
+waits id rows = list_any (λ r. is_row_of id r && not r.out) rows
+
+-- the messages that aren't out
+abbrev pub waiting_of : List Row → List Message
+waiting_of rows = filter (λ m. not (is_taken m.id rows)) (messages_of rows)
+
+-- the first of those that are due and not out
+abbrev pub due_at : ℕ → List Row → Option Message
+due_at at rows = first_due (filter (λ m. nat_le m.due at) (waiting_of rows))
+
+-- when the first of those that aren't out is due
+abbrev pub next_moment : List Row → Option ℕ
+next_moment rows = option_map (λ m. m.due) (first_due (waiting_of rows))
+
+-- the first row above the id, or the first of all
+abbrev pub next_row : Option MsgId → List Row → Option Row
+next_row id rows = find (λ r. option_map_or (λ i. is_lt (id_cmp i r.message.id)) id true) rows
+
+-- with this message, which isn't out
+abbrev pub added : Message → List Row → List Row
+added m rows = put_in row_cmp (record { message = m; out = false }) rows
+
+-- the message of the id is out
+abbrev pub taken : MsgId → List Row → List Row
+taken id rows = map (λ r. if is_row_of id r then record r { out = true } else r) rows
+
+-- without the message of the id
+abbrev pub settled : MsgId → List Row → List Row
+settled id rows = filter (λ r. not (is_row_of id r)) rows
+
+-- it failed once more, and is due an interval later
+abbrev pub with_failure : ℕ → Message → Message
+with_failure at m = record m { fails = m.fails + 1; due = at + interval m.backoff (m.fails + 1) }
+
+-- a message that failed as often as its schedule is long is gone; another one isn't out any more
+abbrev pub after_failure : ℕ → Row → Option Row
+after_failure at r =
+    if r.message.fails == length r.message.backoff then None else Some (record { message = with_failure at r.message; out = false })
+
+-- the message of the id failed at this moment
+abbrev pub failed : MsgId → ℕ → List Row → List Row
+failed id at rows = filter_map (λ r. if is_row_of id r then after_failure at r else Some r) rows
+
+-- 1 to 10 intervals, and no more failures than those
+abbrev pub has_schedule : Message → Bool
+has_schedule m = nat_le 1 (length m.backoff) && nat_le (length m.backoff) 10 && nat_le m.fails (length m.backoff)
