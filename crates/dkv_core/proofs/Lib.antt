@@ -1,4 +1,11 @@
-mod Endless
-mod Going
+pub mod OneCommit
+pub mod Going
+pub mod Settles
 pub mod Replying
 pub mod Running
+pub mod Indexed
+mod Seen
+pub mod Rows
+pub mod Added
+pub mod Kept
+pub mod Viewed

@@ -1,16 +1,14 @@
 -- Steps one after another.
 use Rattle.std.proofs.Common.{◌≡◌, ℕ, zero, suc, ◌+◌, ◌<◌, ◌≤◌, true, false, List, [], ◌∷◌, ◌++◌, length, map, take, drop, get_or, refl, sym, ap, subst, ◌∙◌, arith}
-use Rattle.std.specs.Prelude.{max}
 use Rattle.std.specs.List.{list_all}
 use Rattle.std.proofs.lemmas.Bool.{and_parts}
 use Rattle.std.proofs.lemmas.List.{map-append, take_more}
 use Rattle.dkv_base.specs.declared.types.Answer.{Answer}
 use Rattle.dkv_base.specs.declared.types.Step.{Step}
-use Rattle.dkv_base.specs.State.{taken_moment}
 use Rattle.dkv_base.specs.Replies.{Reply, said}
 use Rattle.dkv_base.specs.Steps.{Situation, step, replies, situation_after}
-use Rattle.dkv_core.specs.Cores.{Whole, SameContent}
-use Rattle.dkv_core.specs.Runs.{is_plain_step, StandsFor, IsStep, situation_of, moment_before, IsAfterFirst, IsCutShort}
+use Rattle.dkv_core.specs.Cores.{Whole}
+use Rattle.dkv_core.specs.Runs.{asks_no_watch, StandsFor, IsStep, situation_of, moment_before, IsCutShort}
 
 pub replies-more : (s : Situation) (ps : List Step) (p : Step) → replies s (ps ++ p ∷ []) [] ≡ replies s ps [] ++ (step (situation_after s ps []) p false).0 ∷ []
 replies-more s [] p = refl
@@ -26,7 +24,7 @@ pub record Ran (c : Whole) (steps : List Step) (given : List Answer) (d : Whole)
   pub leads : StandsFor (situation_after (situation_of c) steps []) d
 
 pub ran_none : (c : Whole) → Ran c [] [] c
-ran_none c = record { answers = refl; leads = record { state = refl; greatest = refl; unstopped = refl; unlimited = refl } }
+ran_none c = record { answers = refl; leads = record { state = refl; leased = λ id. refl; greatest = refl; unstopped = refl; unlimited = refl } }
 
 pub ran_more : (c d e : Whole) (ps : List Step) (p : Step) (rs : List Answer) (r : Answer) → Ran c ps rs d → IsStep d p r e → Ran c (ps ++ p ∷ []) (rs ++ r ∷ []) e
 ran_more c d e ps p rs r ran is =
@@ -36,14 +34,14 @@ ran_more c d e ps p rs r ran is =
       leads = subst (λ (s : Situation). StandsFor s e) (sym (situation_after-more (situation_of c) ps p)) one.1;
     }
 
-plain_next : (ps : List Step) (i : ℕ) (d : Step) → list_all is_plain_step ps ≡ true → i < length ps → is_plain_step (get_or ps i d) ≡ true
-plain_next [] i d all lt = absurd (omega arith)
-plain_next (p ∷ ps) zero d all lt = (and_parts (is_plain_step p) (list_all is_plain_step ps) all).0
-plain_next (p ∷ ps) (suc i) d all lt = plain_next ps i d (and_parts (is_plain_step p) (list_all is_plain_step ps) all).1 (omega arith)
+next_asks : (ps : List Step) (i : ℕ) (d : Step) → list_all asks_no_watch ps ≡ true → i < length ps → asks_no_watch (get_or ps i d) ≡ true
+next_asks [] i d all lt = absurd (omega arith)
+next_asks (p ∷ ps) zero d all lt = (and_parts (asks_no_watch p) (list_all asks_no_watch ps) all).0
+next_asks (p ∷ ps) (suc i) d all lt = next_asks ps i d (and_parts (asks_no_watch p) (list_all asks_no_watch ps) all).1 (omega arith)
 
--- a step of a slice of plain ones
-pub plain_at : (ps : List Step) (i : ℕ) (p : Step) → list_all is_plain_step ps ≡ true → i < length ps → p ≡ get_or ps i p → is_plain_step p ≡ true
-plain_at ps i p all lt is = ap (λ (q : Step). is_plain_step q) is ∙ plain_next ps i p all lt
+-- a step of a slice in which none asks for a watch
+pub asks_at : (ps : List Step) (i : ℕ) (p : Step) → list_all asks_no_watch ps ≡ true → i < length ps → p ≡ get_or ps i p → asks_no_watch p ≡ true
+asks_at ps i p all lt is = ap (λ (q : Step). asks_no_watch q) is ∙ next_asks ps i p all lt
 
 -- the next step of a slice
 pub ran_next : (c d e : Whole) (ps : List Step) (i : ℕ) (p : Step) (rs : List Answer) (r : Answer) → i < length ps → p ≡ get_or ps i p → Ran c (take i ps) rs d → IsStep d p r e
@@ -62,6 +60,7 @@ cut_short c d ps n leads =
       n,
       record {
         state = leads.state;
+        leased = leads.leased;
         least = omega (arith, leads.greatest);
         most = omega (arith, leads.greatest, least_moment s (drop n ps));
       },

@@ -1,47 +1,59 @@
 -- What contracts see of a core and of a prepared commit.
 --     Whole, Change      what they see of the one and of the other
---     SameContent c d      whether two cores have one state and one greatest moment
+--     SameContent c d      whether two cores have one state, one greatest moment and the same messages out
 --     IsEffective c at      whether a call may have this moment
---     is_plain_write w      whether the write neither enqueues anything nor stores what ends
 --     applied p s      the state after the prepared commit
 --     IsReady c p      whether the prepared commit may be made now, without memory
-use Rattle.std.specs.Prelude.{ℕ, ◌≡◌, ◌+◌, ◌≤◌, ◌==◌, Bool, ◌&&◌, IsTrue, List, length, fold}
+use Rattle.std.specs.Prelude.{ℕ, ◌≡◌, ◌+◌, ◌≤◌, ◌==◌, Bool, true, not, ◌&&◌, nat_le, IsTrue, List, ◌++◌, length, fold, count_by, Option}
 use Rattle.std.specs.List.{list_all}
-use Rattle.dkv_base.specs.declared.types.AtomicWrite.{AtomicWrite}
+use Rattle.std.specs.Option.{option_map_or}
 use Rattle.dkv_base.specs.declared.types.Entry.{Entry}
-use Rattle.dkv_base.specs.State.{State, is_empty, put, without, max_moment}
-use Rattle.dkv_atomic.specs.Decisions.{never_ends}
+use Rattle.dkv_base.specs.declared.types.Message.{Message}
+use Rattle.dkv_base.specs.declared.types.MsgId.{MsgId}
+use Rattle.dkv_base.specs.Sound.{is_schedule}
+use Rattle.dkv_base.specs.State.{State, put, without, visible, is_in_id_order, max_moment}
+use Rattle.dkv_base.specs.Trails.{is_out}
+use Rattle.dkv_core.specs.Settling.{after_settlement}
+use Rattle.dkv_core.specs.declared.prepared.Settled.{Settled}
 
--- the state, the greatest moment so far, and how many entries find room without memory
+-- how many entries, how many that end, and how many messages find room without memory
+pub record Room : Type 0 where
+  pub entries : ℕ
+  pub endings : ℕ
+  pub messages : ℕ
+
+-- the state, the messages that are out, the greatest moment so far, and the room
 pub record Whole : Type 0 where
   pub state : State
+  pub out : List MsgId
   pub greatest : ℕ
-  pub spare : ℕ
+  pub room : Room
 
--- the number and the moment of a commit, the entries that it stores and the keys that it takes away
+-- the number and the moment of a commit, the entries that it stores, the keys that it takes away, the messages that it makes, and what it settles
 pub record Change : Type 0 where
   pub number : ℕ
   pub moment : ℕ
   pub puts : List Entry
   pub removed : List (List ℕ)
+  pub added : List Message
+  pub settled : Option Settled
 
 -- the two differ in nothing but their room
 pub record SameContent (c d : Whole) : Type 0 where
   pub state : d.state ≡ c.state
+  pub out : d.out ≡ c.out
   pub greatest : d.greatest ≡ c.greatest
+
+-- there is no less of it
+pub record IsNoLess (r s : Room) : Type 0 where
+  pub entries : r.entries ≤ s.entries
+  pub endings : r.endings ≤ s.endings
+  pub messages : r.messages ≤ s.messages
 
 -- no earlier than the greatest moment so far, and no later than the last that there is
 pub record IsEffective (c : Whole) (at : ℕ) : Type 0 where
   pub late : c.greatest ≤ at
   pub within : at ≤ max_moment
-
--- the write puts nothing into the queue, and what it stores never ends
-abbrev pub is_plain_write : AtomicWrite → Bool
-is_plain_write w = is_empty w.enqueues && never_ends w
-
--- the entry never ends
-abbrev pub is_endless : Entry → Bool
-is_endless e = e.expire == 0
 
 -- the entries without these keys
 abbrev pub without_all : List (List ℕ) → List Entry → List Entry
@@ -51,18 +63,34 @@ without_all keys es = fold (λ fs key. without key fs) es keys
 abbrev pub put_all : List Entry → List Entry → List Entry
 put_all puts es = fold (λ fs e. put e fs) es puts
 
--- the state after the commit: without the keys, and then with the entries
+-- the state after the commit: what has ended is gone, then the keys are taken away, and the entries are stored; a message is settled, and others are made
 abbrev pub applied : Change → State → State
 applied p s = record {
   number = p.number;
   moment = p.moment;
-  entries = put_all p.puts (without_all p.removed s.entries);
-  messages = s.messages;
+  entries = put_all p.puts (without_all p.removed (visible p.moment s.entries));
+  messages = after_settlement p.settled p.moment s.messages ++ p.added;
 }
 
--- it is the next commit, its moment is effective, its entries never end, and there is room for them
+-- the entry ends some day
+abbrev pub ends : Entry → Bool
+ends e = not (e.expire == 0)
+
+-- a message of a commit up to n that has not failed more often than its schedule is long
+abbrev pub is_kept : ℕ → Message → Bool
+is_kept n m = nat_le m.id.commit n && nat_le m.fails (length m.backoff)
+
+-- a message that commit n makes
+abbrev pub is_made_by : ℕ → Message → Bool
+is_made_by n m = (m.id.commit == n) && is_schedule m.backoff && nat_le m.fails (length m.backoff)
+
+-- it is the next commit, its moment is effective, there is room for it, its messages are its own in order, and what it settles is out
 pub record IsReady (c : Whole) (p : Change) : Type 0 where
   pub number : p.number ≡ c.state.number + 1
   pub moment : IsEffective c p.moment
-  pub endless : IsTrue (list_all is_endless p.puts)
-  pub room : length p.puts ≤ c.spare
+  pub entries : length p.puts ≤ c.room.entries
+  pub endings : count_by ends p.puts ≤ c.room.endings
+  pub messages : length p.added ≤ c.room.messages
+  pub made : IsTrue (list_all (is_made_by p.number) p.added)
+  pub order : IsTrue (is_in_id_order p.added)
+  pub settles : IsTrue (option_map_or (λ t. is_out t.id c.out) p.settled true)

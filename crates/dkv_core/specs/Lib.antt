@@ -1,3 +1,7 @@
+pub mod Settling
+pub mod Entries
+pub mod Rows
 pub mod Cores
 pub mod Decisions
+pub mod Takes
 pub mod Runs

@@ -1,51 +1,53 @@
 -- A run of steps from a core.
---     is_plain_step p      whether the step reads, or is a plain write
+--     asks_no_watch p      whether the step neither begins a watch nor asks for a frame of one
 --     situation_of c      the situation in which a run begins
 --     StandsFor s c      whether a situation is the core's, whatever its trail
 --     IsAnswered c who t a r d      whether at the core c the ask has the answer r at the moment t, and leads to the core d
 --     IsStep c p a d      whether the step has this answer at the core c, and leads to the core d
 --     IsCutShort c steps d      whether d is what some first steps lead to, where the next found no memory
-use Rattle.std.specs.Prelude.{ℕ, ◌≡◌, ◌+◌, ◌-◌, ◌^◌, ◌≤◌, Bool, true, false, List, [], ◌∷◌, take, drop, None}
+use Rattle.std.specs.Prelude.{ℕ, ◌≡◌, ◌-◌, ◌^◌, ◌≤◌, Bool, true, false, List, [], ◌∷◌, take, drop, None}
 use Rattle.dkv_base.specs.declared.types.Answer.{Answer}
 use Rattle.dkv_base.specs.declared.types.Ask.{Ask}
 use Rattle.dkv_base.specs.declared.types.Ask.TheVariants as ask
+use Rattle.dkv_base.specs.declared.types.MsgId.{MsgId}
 use Rattle.dkv_base.specs.declared.types.Step.{Step}
-use Rattle.dkv_base.specs.Trails.{first_stop}
+use Rattle.dkv_base.specs.Trails.{first_stop, is_out}
 use Rattle.dkv_base.specs.Replies.{said}
 use Rattle.dkv_base.specs.Steps.{Situation, reply_to, answered, step, situation_after, effective}
-use Rattle.dkv_core.specs.Cores.{Whole, is_plain_write}
+use Rattle.dkv_core.specs.Cores.{Whole}
 
--- a read, or a plain write
-abbrev pub is_plain_ask : Ask → Bool
-is_plain_ask (ask.Read ranges) = true
-is_plain_ask (ask.Write w) = is_plain_write w
-is_plain_ask (ask.Watch keys) = false
-is_plain_ask ask.Poll = false
-is_plain_ask ask.Take = false
-is_plain_ask (ask.Settle id done) = false
+-- no watch, and no frame of one
+abbrev pub is_watchless : Ask → Bool
+is_watchless (ask.Read ranges) = true
+is_watchless (ask.Write w) = true
+is_watchless (ask.Watch keys) = false
+is_watchless ask.Poll = false
+is_watchless ask.Take = true
+is_watchless (ask.Settle id done) = true
 
 -- the step asks so
-abbrev pub is_plain_step : Step → Bool
-is_plain_step p = is_plain_ask p.ask
+abbrev pub asks_no_watch : Step → Bool
+asks_no_watch p = is_watchless p.ask
 
 -- a limit that no weight passes
 abbrev pub no_limit : ℕ
 no_limit = 2 ^ 64 - 1
 
--- the core's state and greatest moment, with nothing out, no watchers and an empty trail
+-- the core's state, its greatest moment and what is out there, with no watchers and an empty trail
 abbrev pub situation_of : Whole → Situation
 situation_of c = record {
   state = c.state;
-  leased = [];
+  leased = c.out;
   greatest = c.greatest;
   watchers = [];
   trail = [];
   limit = no_limit;
 }
 
--- the core's state and greatest moment, and a trail that stops nothing
+-- the core's state and greatest moment, the same messages out, and a trail that stops nothing
 pub record StandsFor (s : Situation) (c : Whole) : Type 0 where
   pub state : s.state ≡ c.state
+  pub leased : (id : MsgId) → is_out id s.leased ≡ is_out id c.out
   pub greatest : s.greatest ≡ c.greatest
   pub unstopped : first_stop s.trail ≡ None
   pub unlimited : s.limit ≡ no_limit
@@ -63,9 +65,10 @@ abbrev pub moment_before : Situation → List Step → ℕ
 moment_before s [] = s.greatest
 moment_before s (p ∷ ps) = effective s p.at
 
--- the state after the first n steps; the greatest moment may have risen to that of the next step
+-- the state after the first n steps and what is out then; the greatest moment may have risen to that of the next step
 pub record IsAfterFirst (c : Whole) (steps : List Step) (n : ℕ) (d : Whole) : Type 0 where
   pub state : (situation_after (situation_of c) (take n steps) []).state ≡ d.state
+  pub leased : (id : MsgId) → is_out id (situation_after (situation_of c) (take n steps) []).leased ≡ is_out id d.out
   pub least : (situation_after (situation_of c) (take n steps) []).greatest ≤ d.greatest
   pub most : d.greatest ≤ moment_before (situation_after (situation_of c) (take n steps) []) (drop n steps)
 

@@ -1,19 +1,25 @@
 //! The one-thread database as a state machine, without a handle.
 //!
-//! The layer above may rely on this: a read and a decision are exactly those of the definitions on the core's state, a
+//! The layer above may rely on this: a read, a take and a decision are exactly those of the definitions on the core's state, a
 //! decision changes nothing, and what was prepared is made without memory and can't be refused.
 #![tactic(auto)]
 
-mod changes;
+mod deciding;
+mod enqueued;
+mod entries;
 mod machine;
-mod plain;
+mod making;
 mod prepared;
+mod put;
 mod reading;
 mod run;
+mod takes;
+mod watchless;
 
 pub use machine::Core;
-pub use plain::{are_plain, is_plain};
 pub use prepared::{Decided, Prepared};
+pub use takes::{NextDue, Taken};
+pub use watchless::are_watchless;
 
 #[cfg(test)]
 mod tests;

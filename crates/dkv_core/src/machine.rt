@@ -1,57 +1,107 @@
-ghost use Rattle.std.specs.Prelude.{ℕ, ◌≡◌, ◌+◌, ◌-◌, ◌^◌, ◌<◌, ◌≤◌, max, length, IsTrue, IfOk, Ok, None};
+ghost use Rattle.std.specs.Prelude.{◌≡◌, ◌^◌, ◌<◌, max, [], IfOk, Ok, None};
 ghost use Rattle.dkv_base.specs.State.{empty_state, taken_moment};
-ghost use Rattle.dkv_base.specs.Limits.{read_limit, write_limit};
+ghost use Rattle.dkv_base.specs.Sound.{IsSound};
+ghost use Rattle.dkv_base.specs.Limits.{read_limit};
 ghost use Rattle.dkv_base.specs.Replies.{read_reply};
-ghost use Rattle.dkv_core.specs.Cores.{IsEffective, IsReady, SameContent, applied, is_plain_write};
+ghost use Rattle.dkv_base.specs.Trails.{is_out};
+ghost use Rattle.dkv_queue.specs.Rows.{messages_of};
+ghost use Rattle.dkv_core.specs.Cores.{IsEffective, SameContent};
+ghost use Rattle.dkv_core.specs.Rows.{out_of};
 
-use crate::changes::{put_entries, take_keys_out};
+use crate::enqueued::queue_of;
+use crate::entries::Entries;
 use crate::reading::read_all;
-use crate::{Decided, Prepared};
-use dkv_atomic::{Decision, Effects, decide, limits};
-use dkv_base::{AtomicWrite, Entry, MAX_MOMENT, NoMemory, ReadRange, Run};
+use dkv_base::{Entry, MAX_MOMENT, Message, MsgId, NoMemory, ReadRange, Run};
+use dkv_queue::Queue;
 use dkv_table::{Plain, Table};
 use std::alloc::Global;
 use std::marker::Model;
 
-/// The database of one thread: the number and the moment of the last commit, the greatest moment so far, and the
-/// entries. Nothing waits in a queue, and no entry ends.
+/// The database of one thread: the number and the moment of the last commit, the greatest moment so far, the entries, and
+/// the messages that wait or are out.
 #[derive(Drop)]
 pub struct Core {
-    number: u64,
-    last: u64,
-    greatest: u64,
-    table: Plain,
+    pub(crate) number: u64,
+    pub(crate) last: u64,
+    pub(crate) greatest: u64,
+    pub(crate) entries: Entries,
+    pub(crate) queue: Queue,
 }
 
 impl Model for Core {
-    ghost use Rattle.std.specs.Prelude.{[], ◌≤◌, IsTrue};
+    ghost use Rattle.std.specs.Prelude.{◌≤◌, IsTrue};
     ghost use Rattle.std.specs.List.{list_all};
     ghost use Rattle.dkv_base.specs.State.{max_moment};
-    ghost use Rattle.dkv_core.specs.Cores.{Whole, is_endless};
+    ghost use Rattle.dkv_queue.specs.Rows.{messages_of};
+    ghost use Rattle.dkv_core.specs.Rows.{out_of};
+    ghost use Rattle.dkv_core.specs.Cores.{Whole, is_kept};
 
     ghost Value = { Whole };
 
     ghost view = { λ c. record {
-      state = record { number = c.number; moment = c.last; entries = ⟦<Plain as Table>⟧.content c.table; messages = [] };
+      state = record { number = c.number; moment = c.last; entries = c.entries.entries; messages = messages_of c.queue.rows };
+      out = out_of c.queue.rows;
       greatest = c.greatest;
-      spare = ⟦<Plain as Table>⟧.spare c.table;
+      room = record { entries = c.entries.spare; endings = c.entries.endings; messages = c.queue.spare };
     } };
 
-    ghost invariant = { λ c. (c.last ≤ c.greatest) × (c.greatest ≤ max_moment) × IsTrue (list_all is_endless (⟦<Plain as Table>⟧.content c.table)) };
+    // No message is of a later commit, and none has failed too often.
+    ghost invariant = { λ c. (c.last ≤ c.greatest) × (c.greatest ≤ max_moment) × IsTrue (list_all (is_kept c.number) (messages_of c.queue.rows)) };
 }
 
 impl Core {
-    ghost use Rattle.dkv_core.specs.Decisions.{IsDecided};
-
     /// A new database. It keeps the allocator for later, takes no memory, and so never refuses.
     pub fn empty(alloc: Global) -> Result<Core, NoMemory>
-        ensures { result ≡ Ok (record { state = empty_state; greatest = 0; spare = 0 }) }
+        ensures { result ≡ Ok (record {
+          state = empty_state;
+          out = [];
+          greatest = 0;
+          room = record { entries = 0; endings = 0; messages = 0 };
+        }) }
     {
         Ok(Core {
             number: 0,
             last: 0,
             greatest: 0,
-            table: Plain::new(alloc),
+            entries: Entries::new(alloc),
+            queue: Queue::new(alloc),
+        })
+    }
+
+    /// The database of this state, in which no message is out. Its commit number is below 2^63, its moment in milliseconds
+    /// since 1970, its entries in key order and its messages in the order of their ids. Takes memory for its indexes.
+    pub fn of(
+        alloc: Global,
+        number: u64,
+        now: u64,
+        entries: Run<Entry>,
+        messages: Run<Message>,
+    ) -> Result<Core, NoMemory>
+        requires few { number < 2 ^ 63 }
+        requires sound { IsSound (record { number = number; moment = now; entries = entries; messages = messages }) }
+        ensures state { IfOk result (λ c. c.state ≡ record { number = number; moment = now; entries = entries; messages = messages }) }
+        ensures out { IfOk result (λ c. c.out ≡ []) }
+        ensures moment { IfOk result (λ c. c.greatest ≡ now) }
+    {
+        Ok(Core {
+            number,
+            last: now,
+            greatest: now,
+            entries: Entries::of(alloc, entries)?,
+            queue: queue_of(alloc, messages)?,
+        })
+    }
+
+    /// An equal database, but for its room. Takes memory for it.
+    pub fn copy(&self, alloc: Global) -> Result<Core, NoMemory>
+        ensures { IfOk result (SameContent self.now) }
+    {
+        Ok(Core {
+            number: self.number,
+            last: self.last,
+            greatest: self.greatest,
+            entries: self.entries.copy(alloc)?,
+            queue: self.queue.copy(alloc)?,
         })
     }
 
@@ -73,7 +123,22 @@ impl Core {
     pub fn table(&self) -> &Plain
         ensures { ⟦<Plain as Table>⟧.content result.now ≡ self.now.state.entries }
     {
-        &self.table
+        self.entries.table()
+    }
+
+    /// The messages that wait or are out. Takes no memory.
+    pub fn queue(&self) -> &Queue
+        ensures messages { messages_of result.now.rows ≡ self.now.state.messages }
+        ensures out { out_of result.now.rows ≡ self.now.out }
+    {
+        &self.queue
+    }
+
+    /// Whether the message was taken and not settled since. Takes no memory.
+    pub fn is_out(&self, id: MsgId) -> bool
+        ensures { result ≡ is_out id self.now.out }
+    {
+        self.queue.is_out(id)
     }
 
     /// The effective moment of a call, in milliseconds since 1970. Takes no memory.
@@ -104,92 +169,6 @@ impl Core {
         requires effective { IsEffective self.now at }
         ensures { IfOk result (λ answer. answer ≡ read_reply self.now.state at ranges.now) }
     {
-        read_all(alloc, &self.table, ranges)
-    }
-
-    /// What is decided of a write of the caller `who` at a moment in milliseconds since 1970. Takes memory for copies of
-    /// what it stores and for the room that `apply` needs. The room may grow, whatever it answers.
-    pub fn prepare(
-        &mut self,
-        alloc: Global,
-        who: u32,
-        at: u64,
-        write: &AtomicWrite,
-    ) -> Result<Decided, NoMemory>
-        requires effective { IsEffective self.old at }
-        requires numbered { self.old.state.number < 2 ^ 64 - 1 }
-        requires plain { IsTrue (is_plain_write write.now) }
-        ensures decided { IfOk result (IsDecided self.new who at write.now) }
-        ensures kept { SameContent self.old self.new }
-        ensures room { self.old.spare ≤ self.new.spare }
-    {
-        match limits(write) {
-            Some(limit) => Ok(Decided::Limit(limit)),
-            None => self.decide_free(alloc, at, write),
-        }
-    }
-
-    // What is decided of a write that passes no limit, whoever made it.
-    fn decide_free(
-        &mut self,
-        alloc: Global,
-        at: u64,
-        write: &AtomicWrite,
-    ) -> Result<Decided, NoMemory>
-        requires effective { IsEffective self.old at }
-        requires numbered { self.old.state.number < 2 ^ 64 - 1 }
-        requires plain { IsTrue (is_plain_write write.now) }
-        requires free { write_limit write.now ≡ None }
-        ensures decided { IfOk result (λ d. (who : ℕ) → IsDecided self.new who at write.now d) }
-        ensures kept { SameContent self.old self.new }
-        ensures room { self.old.spare ≤ self.new.spare }
-    {
-        match decide(alloc, &self.table, write, at, self.number + 1)? {
-            Decision::Fails(places) => Ok(Decided::Fails(places)),
-            Decision::NotU64 { index } => Ok(Decided::NotU64 { index }),
-            Decision::Goes(Effects { puts, removed }) => {
-                self.table.reserve(puts.len())?;
-                Ok(Decided::Goes(Prepared {
-                    number: self.number + 1,
-                    moment: at,
-                    puts,
-                    removed,
-                }))
-            }
-        }
-    }
-
-    /// Makes the commit, and gives its number. Takes no memory.
-    pub fn apply(&mut self, prepared: Prepared) -> u64
-        requires { IsReady self.old prepared }
-        ensures number { result ≡ prepared.number }
-        ensures state { self.new.state ≡ applied prepared self.old.state }
-        ensures moment { self.new.greatest ≡ prepared.moment }
-        ensures room { self.old.spare ≤ self.new.spare + length prepared.puts }
-    {
-        let Prepared {
-            number,
-            moment,
-            puts,
-            removed,
-        } = prepared;
-        take_keys_out(&mut self.table, removed);
-        put_entries(&mut self.table, puts);
-        self.number = number;
-        self.last = moment;
-        self.greatest = moment;
-        number
-    }
-
-    /// Lets the commit go, and leaves all as it was. Takes no memory.
-    pub fn drop_prepared(&mut self, prepared: Prepared)
-        ensures { self.new ≡ self.old }
-    {
-        let Prepared {
-            number: _,
-            moment: _,
-            puts: _,
-            removed: _,
-        } = prepared;
+        read_all(alloc, self.entries.table(), ranges, at)
     }
 }

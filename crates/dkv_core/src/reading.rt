@@ -1,8 +1,10 @@
 // Ranges of a table.
-ghost use Rattle.std.specs.Prelude.{◌≡◌, ◌∷◌, [], ◌++◌, map, take, IfOk, OnOk};
+ghost use Rattle.std.specs.Prelude.{◌≡◌, ◌∷◌, [], ◌++◌, map, filter, take, IfOk, OnOk, length, ◌≤◌};
 ghost use Rattle.dkv_base.specs.Limits.{from_zero};
 ghost use Rattle.dkv_base.specs.Replies.{read_range};
+ghost use Rattle.dkv_base.specs.State.{visible};
 
+use dkv_atomic::is_seen;
 use dkv_base::{Entry, NoMemory, ReadRange, Run, TryCopy};
 use dkv_table::{Cursor, Table};
 use std::alloc::Global;
@@ -28,33 +30,65 @@ fn most_of(range: &ReadRange) -> usize
     }
 }
 
-// The first so many entries of a walk.
-fn first_of(alloc: Global, mut cursor: Cursor<'_>, most: usize) -> Result<Run<Entry>, NoMemory>
-    ensures { IfOk result (λ entries. entries ≡ take most cursor.entry) }
+// The first so many entries of a walk that have not ended at the moment.
+fn first_seen(
+    alloc: Global,
+    mut cursor: Cursor<'_>,
+    most: usize,
+    at: u64,
+) -> Result<Run<Entry>, NoMemory>
+    ensures { IfOk result (λ entries. entries ≡ take most (visible at cursor.entry)) }
 {
     let mut entries = Run::new(alloc);
     while entries.len() < most {
         match cursor.next() {
-            Some(entry) => push(&mut entries, entry.copy(alloc)?)?,
+            Some(entry) => {
+                if is_seen(entry, at) {
+                    push(&mut entries, entry.copy(alloc)?)?;
+                }
+            }
             None => return Ok(entries),
         }
     }
     Ok(entries)
 }
 
-// The first entries of each range, up or down. A walk stops at its range's limit.
+/// Copies of all entries of a walk.
+pub(crate) fn copies(alloc: Global, mut cursor: Cursor<'_>) -> Result<Run<Entry>, NoMemory>
+    ensures { IfOk result (λ entries. entries ≡ cursor.entry) }
+{
+    let mut entries = Run::new(alloc);
+    while let Some(entry) = cursor.next() {
+        push(&mut entries, entry.copy(alloc)?)?;
+    }
+    Ok(entries)
+}
+
+// The first entries of the range that have not ended, up or down. A walk stops at the range's limit.
+fn read_one<T: Table>(
+    alloc: Global,
+    table: &T,
+    range: &ReadRange,
+    at: u64,
+) -> Result<Run<Entry>, NoMemory>
+    ensures { IfOk result (λ entries. entries ≡ read_range (visible at (T.content table.now)) range.now) }
+{
+    let cursor = table.walk(range.start.as_slice(), range.end.as_slice(), range.reverse);
+    first_seen(alloc, cursor, most_of(range), at)
+}
+
+/// The entries of each range that have not ended at the moment, in the order of the ranges.
 pub(crate) fn read_all<T: Table>(
     alloc: Global,
     table: &T,
     ranges: &[ReadRange],
+    at: u64,
 ) -> Result<Run<Run<Entry>>, NoMemory>
-    ensures { IfOk result (λ answer. answer ≡ map (read_range (T.content table.now)) ranges.now) }
+    ensures { IfOk result (λ answer. answer ≡ map (read_range (visible at (T.content table.now))) ranges.now) }
 {
     let mut answer = Run::new(alloc);
     for range in ranges {
-        let cursor = table.walk(range.start.as_slice(), range.end.as_slice(), range.reverse);
-        let entries = first_of(alloc, cursor, most_of(range))?;
-        push(&mut answer, entries)?;
+        push(&mut answer, read_one(alloc, table, range, at)?)?;
     }
     Ok(answer)
 }

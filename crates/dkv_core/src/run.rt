@@ -1,16 +1,16 @@
 // Steps in order, from what the calls of one step do.
 ghost use Rattle.std.specs.Prelude.{ℕ, ◌≡◌, ◌+◌, ◌-◌, ◌^◌, ◌<◌, ◌≤◌, [], length, map, IsTrue, IfOk, OnOk, OnErr};
 ghost use Rattle.std.specs.List.{list_all};
-ghost use Rattle.dkv_base.specs.declared.types.Ask.TheVariants.{Read, Write};
+ghost use Rattle.dkv_base.specs.declared.types.Ask.TheVariants.{Read, Write, Take, Settle};
 ghost use Rattle.dkv_base.specs.Replies.{said};
 ghost use Rattle.dkv_base.specs.Steps.{replies, situation_after};
-ghost use Rattle.dkv_core.specs.Cores.{IsEffective, SameContent, is_plain_write};
-ghost use Rattle.dkv_core.specs.Runs.{is_plain_step, situation_of, StandsFor, IsAnswered, IsStep, IsCutShort};
+ghost use Rattle.dkv_core.specs.Cores.{IsEffective, SameContent};
+ghost use Rattle.dkv_core.specs.Runs.{asks_no_watch, situation_of, StandsFor, IsAnswered, IsStep, IsCutShort};
 
 use crate::reading::push;
-use crate::{Core, Decided};
+use crate::{Core, Decided, Taken};
 use dkv_atomic::read_limits;
-use dkv_base::{Answer, Ask, AtomicWrite, NoMemory, ReadRange, Run, Step};
+use dkv_base::{Answer, Ask, AtomicWrite, MsgId, NoMemory, ReadRange, Run, Step};
 use std::alloc::Global;
 
 impl Core {
@@ -18,7 +18,7 @@ impl Core {
     /// wanting, some first steps were made, and the greatest moment may have risen to the next one's.
     pub fn run(&mut self, alloc: Global, steps: &[Step]) -> Result<Run<Answer>, NoMemory>
         requires numbered { self.old.state.number + length steps.now < 2 ^ 64 }
-        requires plain { IsTrue (list_all is_plain_step steps.now) }
+        requires watchless { IsTrue (list_all asks_no_watch steps.now) }
         ensures answers { IfOk result (λ answers. map said answers ≡ replies (situation_of self.old) steps.now []) }
         ensures leaves { OnOk result (StandsFor (situation_after (situation_of self.old) steps.now []) self.new) }
         ensures err { OnErr result (IsCutShort self.old steps.now self.new) }
@@ -34,7 +34,7 @@ impl Core {
     // One step. Where memory is wanting, nothing is changed.
     fn step(&mut self, alloc: Global, step: &Step) -> Result<Answer, NoMemory>
         requires numbered { self.old.state.number < 2 ^ 64 - 1 }
-        requires plain { IsTrue (is_plain_step step.now) }
+        requires watchless { IsTrue (asks_no_watch step.now) }
         ensures answer { IfOk result (λ answer. IsStep self.old step.now answer self.new) }
         ensures next { self.new.state.number ≤ self.old.state.number + 1 }
         ensures err { OnErr result (SameContent self.old self.new) }
@@ -43,7 +43,9 @@ impl Core {
         match &step.ask {
             Ask::Read(ranges) => self.answer_read(alloc, ranges.as_slice(), at),
             Ask::Write(write) => self.answer_write(alloc, step.who, at, write),
-            Ask::Watch(_) | Ask::Poll | Ask::Take | Ask::Settle { .. } => unreachable!(),
+            Ask::Take => self.answer_take(alloc, at),
+            Ask::Settle { id, done } => self.answer_settle(alloc, at, *id, *done),
+            Ask::Watch(_) | Ask::Poll => unreachable!(),
         }
     }
 
@@ -77,12 +79,11 @@ impl Core {
     ) -> Result<Answer, NoMemory>
         requires effective { IsEffective self.old at }
         requires numbered { self.old.state.number < 2 ^ 64 - 1 }
-        requires plain { IsTrue (is_plain_write write.now) }
         ensures answer { IfOk result (λ answer. IsAnswered self.old who at (Write write.now) answer self.new) }
         ensures next { self.new.state.number ≤ self.old.state.number + 1 }
         ensures err { OnErr result (SameContent self.old self.new) }
     {
-        match self.prepare(alloc, who, at, write)? {
+        match self.prepare_write(alloc, at, write)? {
             Decided::Limit(limit) => Ok(Answer::Limit(limit)),
             Decided::Fails(places) => {
                 self.raise(at);
@@ -96,5 +97,41 @@ impl Core {
                 n: self.apply(prepared),
             }),
         }
+    }
+
+    // The answer to a take at an effective moment.
+    fn answer_take(&mut self, alloc: Global, at: u64) -> Result<Answer, NoMemory>
+        requires { IsEffective self.old at }
+        ensures answer { IfOk result (λ answer. (who : ℕ) → IsAnswered self.old who at Take answer self.new) }
+        ensures state { self.new.state ≡ self.old.state }
+        ensures err { OnErr result (SameContent self.old self.new) }
+    {
+        match self.take(alloc, at)? {
+            Taken::Leased(message) => Ok(Answer::Leased(message)),
+            Taken::Nothing { next } => Ok(Answer::Nothing { next }),
+        }
+    }
+
+    // The answer to a settlement at an effective moment.
+    fn answer_settle(
+        &mut self,
+        alloc: Global,
+        at: u64,
+        id: MsgId,
+        done: bool,
+    ) -> Result<Answer, NoMemory>
+        requires effective { IsEffective self.old at }
+        requires numbered { self.old.state.number < 2 ^ 64 - 1 }
+        ensures answer { IfOk result (λ answer. (who : ℕ) → IsAnswered self.old who at (Settle id done) answer self.new) }
+        ensures next { self.new.state.number ≤ self.old.state.number + 1 }
+        ensures err { OnErr result (SameContent self.old self.new) }
+    {
+        if !self.is_out(id) {
+            return Ok(Answer::NoLease);
+        }
+        let prepared = self.prepare_settlement(alloc, at, id, done)?;
+        Ok(Answer::Settled {
+            n: self.apply(prepared),
+        })
     }
 }

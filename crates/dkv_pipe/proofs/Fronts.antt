@@ -114,4 +114,10 @@ look_whole bytes len t e least =
       }) (drop (4 + length_at bytes) bytes)) (same (length_at bytes));
       least = omega (arith, e, least);
       most = t.whole;
+      fits = subst (λ k. is_body_length (get_or bytes 16 0) k ≡ true) (same (length_at bytes)) (fits (is_frame_kind (get_or bytes 16 0)) (is_body_length (get_or bytes 16 0) (length_at bytes - 13)) t.kind);
     })
+  where
+    fits : (a b : Bool) → (not a || not b) ≡ false → b ≡ true
+    fits true true h = refl
+    fits true false h = absurd (cc h)
+    fits false b h = absurd (cc h)

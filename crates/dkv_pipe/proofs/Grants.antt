@@ -1,26 +1,33 @@
 -- What a commit and a read body are answered is what the definitions grant in each situation of the core.
-use Rattle.std.proofs.Common.{◌≡◌, sym, ap, subst, ◌∙◌, ℕ, ◌+◌, List, Option, Some, None, Result, Ok}
+use Rattle.std.proofs.Common.{◌≡◌, ◌≢◌, refl, sym, ap, subst, ◌∙◌, ℕ, ◌+◌, true, false, List, [], Option, Some, None, Result, Ok, Err}
 use Rattle.std.specs.Prelude.{max, IfOk}
 use Rattle.dkv_base.specs.declared.types.Answer.{Answer}
 use Rattle.dkv_base.specs.declared.types.Answer.TheVariants as answer
 use Rattle.dkv_base.specs.declared.types.Ask.{Ask}
 use Rattle.dkv_base.specs.declared.types.Ask.TheVariants as ask
-use Rattle.dkv_base.specs.declared.types.AtomicWrite.{AtomicWrite}
+use Rattle.dkv_base.specs.declared.types.Call.{Call}
+use Rattle.dkv_base.specs.declared.types.Call.TheVariants as call
+use Rattle.dkv_base.specs.declared.types.Limit.{Limit}
+use Rattle.dkv_base.specs.declared.types.Message.{Message}
 use Rattle.dkv_base.specs.declared.types.ReadRange.{ReadRange}
-use Rattle.dkv_base.specs.State.{taken_moment}
+use Rattle.dkv_base.specs.Limits.{write_limit}
+use Rattle.dkv_base.specs.State.{seen, taken_moment}
+use Rattle.dkv_base.specs.Trails.{is_out}
+use Rattle.dkv_base.specs.Writes.{failing, mutated_all}
 use Rattle.dkv_base.specs.Replies.{Reply, said}
 use Rattle.dkv_base.specs.Steps.{effective, reply_to, answered}
-use Rattle.dkv_base.specs.Pipe.{asks, wish_of_read, bytes_of_reply, answer_bytes, reply_bytes, spell_written}
+use Rattle.dkv_base.specs.Pipe.{asks, wish_of_read, bytes_of_reply, answer_bytes}
 use Rattle.dkv_wire.specs.FieldLists.{fields}
 use Rattle.dkv_msgs.specs.declared.types.SnapshotRead.{SnapshotRead}
 use Rattle.dkv_msgs.specs.Messages.{snapshot_read}
 use Rattle.dkv_msgs.specs.Places.{bad_snapshot_read}
 use Rattle.dkv_msgs.specs.Readings.{readings, unless_bad, reads_snapshot_read}
-use Rattle.dkv_core.specs.Cores.{Whole, Change, SameContent, applied}
-use Rattle.dkv_core.specs.Decisions.{Goes}
+use Rattle.dkv_core.specs.Cores.{Whole, Change, SameContent}
+use Rattle.dkv_core.specs.Decisions.{Goes, OfWrite, may_ask}
 use Rattle.dkv_core.specs.Runs.{StandsFor, IsAnswered}
-use Rattle.dkv_core.proofs.Replying.{same_answers, write_goes}
-use Rattle.dkv_pipe.specs.Replies.{Grants}
+use Rattle.dkv_core.specs.Takes.{IsFirst, IsNone, IsOutToo, IsRaised}
+use Rattle.dkv_core.proofs.Replying.{Made, SameAt, same_answers, write_limited, write_fails, write_not_u64, write_goes, settle_none, settle_made, take_leased, take_nothing}
+use Rattle.dkv_pipe.specs.Replies.{Grants, ask_of, limit_out, made_answer}
 
 -- an answer at the effective moment, and its bytes
 granted : (c d : Whole) (who at t : ℕ) (a : Ask) (r : Answer) (out : List ℕ) → t ≡ max (taken_moment at) c.greatest → IsAnswered c who t a r d → out ≡ answer_bytes r
@@ -32,14 +39,68 @@ granted c d who at t a r out when is told = λ s stands.
       subst (λ (q : Reply). StandsFor (answered who (effective s at) a q s) d) (sym here.0) here.1,
     )
 
--- a commit that was prepared and made
-pub write_made : (c m d : Whole) (who at t : ℕ) (w : AtomicWrite) (p : Change) (number : ℕ) (out : List ℕ) → t ≡ max (taken_moment at) c.greatest → SameContent c m
-    → Goes m who t w p → d.state ≡ applied p m.state → d.greatest ≡ p.moment → number ≡ m.state.number + 1 → out ≡ reply_bytes 0 (spell_written number)
-    → Grants c (asks (ask.Write w)) who at out d
-write_made c m d who at t w p number out when same is state greatest next told =
+-- a write that passes a limit; no settlement does
+pub call_limited : (c d : Whole) (who at t : ℕ) (a : Call) (passed : Limit) (out : List ℕ) → t ≡ max (taken_moment at) c.greatest → OfWrite a (λ w. write_limit w ≡ Some passed) → SameContent c d → out ≡ limit_out passed
+    → Grants c (asks (ask_of a)) who at out d
+call_limited c d who at t (call.Write w) passed out when is same told = granted c d who at t (ask.Write w) (answer.Limit passed) out when (write_limited c d who t w passed is same) told
+call_limited c d who at t (call.Ack id) passed out when is same told = absurd is
+call_limited c d who at t (call.Fail id) passed out when is same told = absurd is
+
+-- a write of which checks fail
+pub call_fails : (c m d : Whole) (who at t : ℕ) (a : Call) (places : List ℕ) (out : List ℕ) → t ≡ max (taken_moment at) c.greatest → SameContent c m
+    → OfWrite a (λ w. (write_limit w ≡ None) × (failing w (seen m.state t) ≡ places) × (places ≢ [])) → SameAt m t d → out ≡ answer_bytes (answer.Fails places)
+    → Grants c (asks (ask_of a)) who at out d
+call_fails c m d who at t (call.Write w) places out when same is raised told =
+    granted c d who at t (ask.Write w) (answer.Fails places) out when (same_answers c m d who t (ask.Write w) (answer.Fails places) same (write_fails m d who t w places is raised)) told
+call_fails c m d who at t (call.Ack id) places out when same is raised told = absurd is
+call_fails c m d who at t (call.Fail id) places out when same is raised told = absurd is
+
+-- a write that meets a value that is no LE64
+pub call_not_u64 : (c m d : Whole) (who at t : ℕ) (a : Call) (index : ℕ) (out : List ℕ) → t ≡ max (taken_moment at) c.greatest → SameContent c m
+    → OfWrite a (λ w. (write_limit w ≡ None) × (failing w (seen m.state t) ≡ []) × (mutated_all w (m.state.number + 1) t (seen m.state t) ≡ Err index)) → SameAt m t d → out ≡ answer_bytes (answer.NotU64 index)
+    → Grants c (asks (ask_of a)) who at out d
+call_not_u64 c m d who at t (call.Write w) index out when same is raised told =
+    granted c d who at t (ask.Write w) (answer.NotU64 index) out when (same_answers c m d who t (ask.Write w) (answer.NotU64 index) same (write_not_u64 m d who t w index is raised)) told
+call_not_u64 c m d who at t (call.Ack id) index out when same is raised told = absurd is
+call_not_u64 c m d who at t (call.Fail id) index out when same is raised told = absurd is
+
+numbered : (a : Call) (n k : ℕ) (out : List ℕ) → n ≡ k → out ≡ answer_bytes (made_answer a n) → out ≡ answer_bytes (made_answer a k)
+numbered a n k out is told = told ∙ ap (λ (x : ℕ). answer_bytes (made_answer a x)) is
+
+-- a call that was prepared and made
+pub call_made : (c m d : Whole) (who at t : ℕ) (a : Call) (p : Change) (number : ℕ) (out : List ℕ) → t ≡ max (taken_moment at) c.greatest → SameContent c m → may_ask c a ≡ true
+    → Goes m who t a p → Made m p d → number ≡ m.state.number + 1 → out ≡ answer_bytes (made_answer a number)
+    → Grants c (asks (ask_of a)) who at out d
+call_made c m d who at t (call.Write w) p number out when same may is made next told =
     granted c d who at t (ask.Write w) (answer.Written p.number) out when
-    (same_answers c m d who t (ask.Write w) (answer.Written p.number) same (write_goes m d who t w p is state greatest))
-    (told ∙ ap (λ (n : ℕ). reply_bytes 0 (spell_written n)) (next ∙ sym is.ready.number))
+    (same_answers c m d who t (ask.Write w) (answer.Written p.number) same (write_goes m d who t w p is made))
+    (numbered (call.Write w) number p.number out (next ∙ sym is.ready.number) told)
+call_made c m d who at t (call.Ack id) p number out when same may is made next told =
+    granted c d who at t (ask.Settle id true) (answer.Settled p.number) out when
+    (same_answers c m d who t (ask.Settle id true) (answer.Settled p.number) same (settle_made m d who t id true p (ap (λ ids. is_out id ids) same.out ∙ may) is made))
+    (numbered (call.Ack id) number p.number out (next ∙ sym is.ready.number) told)
+call_made c m d who at t (call.Fail id) p number out when same may is made next told =
+    granted c d who at t (ask.Settle id false) (answer.Settled p.number) out when
+    (same_answers c m d who t (ask.Settle id false) (answer.Settled p.number) same (settle_made m d who t id false p (ap (λ ids. is_out id ids) same.out ∙ may) is made))
+    (numbered (call.Fail id) number p.number out (next ∙ sym is.ready.number) told)
+
+-- a settlement of what isn't out
+pub call_lost : (c : Whole) (who at : ℕ) (a : Call) (out : List ℕ) → may_ask c a ≡ false → out ≡ answer_bytes answer.NoLease → Grants c (asks (ask_of a)) who at out c
+call_lost c who at (call.Write w) out may told = absurd (cc may)
+call_lost c who at (call.Ack id) out may told =
+    granted c c who at (max (taken_moment at) c.greatest) (ask.Settle id true) answer.NoLease out refl (settle_none c c who (max (taken_moment at) c.greatest) id true may (record { state = refl; out = refl; greatest = refl })) told
+call_lost c who at (call.Fail id) out may told =
+    granted c c who at (max (taken_moment at) c.greatest) (ask.Settle id false) answer.NoLease out refl (settle_none c c who (max (taken_moment at) c.greatest) id false may (record { state = refl; out = refl; greatest = refl })) told
+
+-- a take of the message that is due
+pub lease_granted : (c d : Whole) (at t : ℕ) (m : Message) (out : List ℕ) → t ≡ max (taken_moment at) c.greatest → IsFirst c t m → IsOutToo c m.id d → IsRaised c t d → out ≡ answer_bytes (answer.Leased m)
+    → (who : ℕ) → Grants c (asks ask.Take) who at out d
+lease_granted c d at t m out when is gone raised told who = granted c d who at t ask.Take (answer.Leased m) out when (take_leased c d who t m is gone raised) told
+
+-- and one that finds none
+pub nothing_granted : (c d : Whole) (at t : ℕ) (moment : Option ℕ) (out : List ℕ) → t ≡ max (taken_moment at) c.greatest → IsNone c t moment → d.out ≡ c.out → IsRaised c t d → out ≡ answer_bytes (answer.Nothing moment)
+    → (who : ℕ) → Grants c (asks ask.Take) who at out d
+nothing_granted c d at t moment out when is gone raised told who = granted c d who at t ask.Take (answer.Nothing moment) out when (take_nothing c d who t moment is gone raised) told
 
 ranges_are : (bad : Option ℕ) (m request : SnapshotRead) → unless_bad bad m ≡ Ok request → unless_bad bad m.ranges ≡ Ok request.ranges
 ranges_are None m request is = let same : m ≡ request = cc in ap (λ (x : SnapshotRead). Ok x.ranges) same

@@ -5,6 +5,8 @@ use Rattle.std.proofs.lemmas.List.{append-nil, length-drop}
 use Rattle.dkv_io.specs.Streams.{AppendsFront}
 use Rattle.std.specs.Prelude.{IsTrue, false}
 use Rattle.std.specs.List.{AllByRecursion}
+use Rattle.dkv_base.specs.declared.types.MsgId.{MsgId}
+use Rattle.dkv_base.specs.Trails.{is_out}
 use Rattle.dkv_base.specs.Steps.{Situation}
 use Rattle.dkv_base.specs.Pipe.{PipeFrame, frame_step, replies_from, after_frames}
 use Rattle.dkv_msgs.specs.Readings.{readings}
@@ -76,7 +78,7 @@ at_start (Some all) held c = (
     done = record {
       to = situation_of c;
       answered = record { frames = []; whole = refl; built = tt; replied = refl; leads = refl };
-      stands = record { state = refl; greatest = refl; unstopped = refl; unlimited = refl };
+      stands = record { state = refl; leased = λ id. refl; greatest = refl; unstopped = refl; unlimited = refl };
       place = refl;
     };
     written = appends_nothing held;
@@ -137,6 +139,7 @@ same_stands from read at out rest d now same upto = record {
   answered = upto.answered;
   stands = record {
     state = upto.stands.state ∙ sym same.state;
+    leased = λ id. upto.stands.leased id ∙ ap (λ (ids : List MsgId). is_out id ids) (sym same.out);
     greatest = upto.stands.greatest ∙ sym same.greatest;
     unstopped = upto.stands.unstopped;
     unlimited = upto.stands.unlimited;

@@ -1,9 +1,9 @@
 -- A run that goes on.
-use Rattle.std.specs.Prelude.{◌≡◌, ℕ, ◌+◌, ◌-◌, ◌^◌, ◌<◌, ◌≤◌, List, length, take, drop}
+use Rattle.std.specs.Prelude.{◌≡◌, ℕ, ◌+◌, ◌-◌, ◌^◌, ◌<◌, ◌≤◌, IsTrue, List, length, take, drop}
 use Rattle.std.specs.declared.option.Option.{Option}
 use Rattle.std.specs.Io.KnownBytes.{Appends}
 use Rattle.dkv_base.specs.Steps.{Situation}
-use Rattle.dkv_base.specs.Pipe.{PipeFrame}
+use Rattle.dkv_base.specs.Pipe.{PipeFrame, is_body_length}
 use Rattle.dkv_core.specs.Cores.{Whole}
 use Rattle.dkv_pipe.specs.Frames.{front}
 use Rattle.dkv_pipe.specs.Frames as frames
@@ -28,6 +28,7 @@ pub record IsWholeOf (h : Head) (bytes : List ℕ) : Type 0 where
   pub whole : front bytes ≡ frames.Whole (frame_with h (body_at h.len bytes)) (drop h.len bytes)
   pub least : 17 ≤ h.len
   pub most : h.len ≤ length bytes
+  pub fits : IsTrue (is_body_length h.kind (h.len - 17))
 
 -- what stands at the front of the bytes
 abbrev pub IsLook : Look → List ℕ → Type 0

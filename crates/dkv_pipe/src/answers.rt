@@ -1,21 +1,20 @@
 // The reply to each frame, and what it changes in the core.
-ghost use Rattle.std.specs.Prelude.{ℕ, ◌≡◌, ◌+◌, ◌-◌, ◌^◌, ◌<◌, ◌≤◌, false, IfOk, IsErrOf, IsTrue, OnErr};
-ghost use Rattle.dkv_base.specs.declared.types.Ask.TheVariants.{Read, Write};
-ghost use Rattle.dkv_base.specs.Pipe.{asks, reply_bytes, spell_written, wish_of_read};
+ghost use Rattle.std.specs.Prelude.{ℕ, ◌≡◌, ◌+◌, ◌-◌, ◌^◌, ◌<◌, ◌≤◌, false, length, IfOk, IsErrOf, IsTrue, OnErr};
+ghost use Rattle.dkv_base.specs.declared.types.Ask.TheVariants.{Read, Write, Take};
+ghost use Rattle.dkv_base.specs.Pipe.{asks, is_body_length, wish_of_read};
 ghost use Rattle.dkv_msgs.specs.Readings.{readings};
-ghost use Rattle.dkv_core.specs.Cores.{SameContent, is_plain_write};
-ghost use Rattle.dkv_pipe.specs.Built.{is_built, is_built_write};
-ghost use Rattle.dkv_pipe.specs.Replies.{Answers, Grants};
+ghost use Rattle.dkv_core.specs.Cores.{SameContent};
+ghost use Rattle.dkv_core.specs.Decisions.{may_ask};
+ghost use Rattle.dkv_pipe.specs.Built.{is_built};
+ghost use Rattle.dkv_pipe.specs.Replies.{Answers, Grants, ask_of};
 ghost use Rattle.dkv_pipe.specs.Running.{frame_with};
 
-use crate::frames::Head;
-use crate::replies::{limited, malformed, reply_frame};
-use dkv_atomic::{limits, read_limits};
-use dkv_base::{AtomicWrite, Bytes, NoMemory, ReadRange};
-use dkv_core::{Core, Decided, is_plain};
-use dkv_msgs::{
-    ReadError, fails_reply, read_atomic_write, read_reply, read_snapshot_read, written_reply,
-};
+use crate::frames::{Head, id_of};
+use crate::replies::{leased, limited, made, malformed, no_lease, nothing, reply_frame};
+use dkv_atomic::read_limits;
+use dkv_base::{Bytes, Call, NoMemory, ReadRange};
+use dkv_core::{Core, Decided, NextDue};
+use dkv_msgs::{ReadError, fails_reply, read_atomic_write, read_reply, read_snapshot_read};
 use std::alloc::Global;
 
 /// Why a frame got no answer.
@@ -71,30 +70,22 @@ fn answer_read(core: &mut Core, alloc: Global, moment: u64, body: &[u8]) -> Resu
     }
 }
 
-// The reply to a write that was made as this commit.
-fn written(alloc: Global, number: u64) -> Result<Bytes, NoMemory>
-    ensures { IfOk result (λ out. out ≡ reply_bytes 0 (spell_written number)) }
-{
-    let body = written_reply(alloc, number)?;
-    reply_frame(alloc, 0, body.as_slice())
-}
-
-// The reply to a plain write, and the commit where it goes. All memory is taken before anything changes.
+// The reply to a call, which may be made, and the commit where it goes. All memory is taken before anything changes.
 fn make(
     core: &mut Core,
     alloc: Global,
     who: u32,
     moment: u64,
-    write: &AtomicWrite,
+    call: &Call,
 ) -> Result<Bytes, NoMemory>
     requires numbered { core.old.state.number < 2 ^ 64 - 1 }
-    requires plain { IsTrue (is_plain_write write.now) }
-    ensures reply { IfOk result (λ out. Grants core.old (asks (Write write.now)) who moment out core.new) }
+    requires out { IsTrue (may_ask core.old call.now) }
+    ensures reply { IfOk result (λ out. Grants core.old (asks (ask_of call.now)) who moment out core.new) }
     ensures next { core.new.state.number ≤ core.old.state.number + 1 }
     ensures same { OnErr result (SameContent core.old core.new) }
 {
     let at = core.moment(moment);
-    match core.prepare(alloc, who, at, write)? {
+    match core.prepare(alloc, who, at, call)? {
         Decided::Limit(passed) => limited(alloc, passed),
         Decided::Fails(places) => {
             let body = fails_reply(alloc, places)?;
@@ -107,7 +98,7 @@ fn make(
             core.raise(at);
             Ok(reply)
         }
-        Decided::Goes(prepared) => match written(alloc, core.number() + 1) {
+        Decided::Goes(prepared) => match made(alloc, call, core.number() + 1) {
             Ok(reply) => {
                 let _number = core.apply(prepared);
                 Ok(reply)
@@ -120,6 +111,37 @@ fn make(
     }
 }
 
+// Whether a call may be made: a settlement only of a message that is out.
+fn may_be_made(core: &Core, call: &Call) -> bool
+    ensures { result ≡ may_ask core.now call.now }
+{
+    match call {
+        Call::Write(_) => true,
+        Call::Ack(id) => core.is_out(*id),
+        Call::Fail(id) => core.is_out(*id),
+    }
+}
+
+// The reply to a call.
+fn answer_call(
+    core: &mut Core,
+    alloc: Global,
+    who: u32,
+    moment: u64,
+    call: &Call,
+) -> Result<Bytes, NoMemory>
+    requires { core.old.state.number < 2 ^ 64 - 1 }
+    ensures reply { IfOk result (λ out. Grants core.old (asks (ask_of call.now)) who moment out core.new) }
+    ensures next { core.new.state.number ≤ core.old.state.number + 1 }
+    ensures same { OnErr result (SameContent core.old core.new) }
+{
+    if may_be_made(core, call) {
+        make(core, alloc, who, moment, call)
+    } else {
+        no_lease(alloc)
+    }
+}
+
 // The reply to a body that asks for a write.
 fn answer_write(
     core: &mut Core,
@@ -127,25 +149,39 @@ fn answer_write(
     who: u32,
     moment: u64,
     body: &[u8],
-) -> Result<Bytes, Unanswered>
+) -> Result<Bytes, NoMemory>
     requires { core.old.state.number < 2 ^ 64 - 1 }
     ensures reply { IfOk result (λ out. Grants core.old (wish_of_read Write (readings.write_of body.now)) who moment out core.new) }
-    ensures built { IfOk result (λ _. IsTrue (is_built_write (readings.write_of body.now))) }
-    ensures unbuilt { IsErrOf result Unanswered.NotBuilt → is_built_write (readings.write_of body.now) ≡ false }
     ensures next { core.new.state.number ≤ core.old.state.number + 1 }
     ensures same { OnErr result (SameContent core.old core.new) }
 {
-    let request = match read_atomic_write(alloc, body) {
-        Ok(request) => request,
-        Err(ReadError::Malformed { at }) => return Ok(malformed(alloc, at)?),
-        Err(ReadError::NoMemory) => return Err(Unanswered::NoMemory),
-    };
-    if is_plain(&request) {
-        return Ok(make(core, alloc, who, moment, &request)?);
+    match read_atomic_write(alloc, body) {
+        Ok(request) => answer_call(core, alloc, who, moment, &Call::Write(request)),
+        Err(ReadError::Malformed { at }) => malformed(alloc, at),
+        Err(ReadError::NoMemory) => Err(NoMemory),
     }
-    match limits(&request) {
-        Some(passed) => Ok(limited(alloc, passed)?),
-        None => Err(Unanswered::NotBuilt),
+}
+
+// The reply to a take. All memory is taken before the message is out.
+fn answer_take(core: &mut Core, alloc: Global, moment: u64) -> Result<Bytes, NoMemory>
+    ensures reply { IfOk result (λ out. (who : ℕ) → Grants core.old (asks Take) who moment out core.new) }
+    ensures state { core.new.state ≡ core.old.state }
+    ensures same { OnErr result (SameContent core.old core.new) }
+{
+    let at = core.moment(moment);
+    match core.due(at) {
+        NextDue::Message(message) => {
+            let id = message.id;
+            let reply = leased(alloc, message)?;
+            core.lease(id);
+            core.raise(at);
+            Ok(reply)
+        }
+        NextDue::Nothing { next } => {
+            let reply = nothing(alloc, next)?;
+            core.raise(at);
+            Ok(reply)
+        }
     }
 }
 
@@ -156,15 +192,20 @@ pub(crate) fn answer(
     head: Head,
     body: &[u8],
 ) -> Result<Bytes, Unanswered>
-    requires { core.old.state.number < 2 ^ 64 - 1 }
+    requires numbered { core.old.state.number < 2 ^ 64 - 1 }
+    requires fits { IsTrue (is_body_length head.kind (length body.now)) }
     ensures ok { IfOk result (λ out. Answers core.old (frame_with head body.now) out core.new) }
     ensures unbuilt { IsErrOf result Unanswered.NotBuilt → is_built (frame_with head body.now) ≡ false }
     ensures next { core.new.state.number ≤ core.old.state.number + 1 }
     ensures same { OnErr result (SameContent core.old core.new) }
 {
+    let (who, moment) = (head.caller, head.moment);
     match head.kind {
-        1 => Ok(answer_read(core, alloc, head.moment, body)?),
-        2 => answer_write(core, alloc, head.caller, head.moment, body),
+        1 => Ok(answer_read(core, alloc, moment, body)?),
+        2 => Ok(answer_write(core, alloc, who, moment, body)?),
+        5 => Ok(answer_take(core, alloc, moment)?),
+        6 => Ok(answer_call(core, alloc, who, moment, &Call::Ack(id_of(body)))?),
+        7 => Ok(answer_call(core, alloc, who, moment, &Call::Fail(id_of(body)))?),
         _ => Err(Unanswered::NotBuilt),
     }
 }

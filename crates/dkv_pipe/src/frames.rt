@@ -1,7 +1,9 @@
 ghost use Rattle.std.specs.Prelude.{◌≡◌, ◌+◌, ◌≤◌, length, take, drop};
 ghost use Rattle.std.specs.Int.{w32, w64, from_le_bytes};
-ghost use Rattle.dkv_base.specs.Pipe.{is_frame_kind, is_body_length};
+ghost use Rattle.dkv_base.specs.Pipe.{id_of, is_frame_kind, is_body_length};
 ghost use Rattle.dkv_pipe.specs.Running.{IsLook};
+
+use dkv_base::MsgId;
 
 /// Who asks, at which moment and for what, and the length of the whole frame.
 #[derive(Clone, Copy, Debug)]
@@ -86,4 +88,15 @@ pub(crate) fn look_at(bytes: &[u8]) -> Look
         kind,
         len: 4 + len,
     })
+}
+
+/// The id in the body of a settlement.
+pub(crate) fn id_of(body: &[u8]) -> MsgId
+    requires { length body.now ≡ 12 }
+    ensures { result ≡ id_of body.now }
+{
+    MsgId {
+        commit: number_8(body, 0),
+        index: number_4(body, 8),
+    }
 }

@@ -1,8 +1,11 @@
 ghost use Rattle.std.specs.Prelude.{◌≡◌, ◌++◌, IfOk};
-ghost use Rattle.dkv_base.specs.Pipe.{limit_code, reply_bytes};
-ghost use Rattle.dkv_pipe.specs.Replies.{limit_out, malformed_out};
+ghost use Rattle.dkv_base.specs.declared.types.Answer.TheVariants.{Leased, NoLease, Nothing};
+ghost use Rattle.dkv_base.specs.Spelling.{id_bytes};
+ghost use Rattle.dkv_base.specs.Pipe.{answer_bytes, limit_code, reply_bytes};
+ghost use Rattle.dkv_pipe.specs.Replies.{limit_out, made_answer, malformed_out};
 
-use dkv_base::{Bytes, Limit, NoMemory};
+use dkv_base::{Bytes, Call, Limit, Message, NoMemory};
+use dkv_msgs::written_reply;
 use std::alloc::{AllocError, Global};
 
 /// The number under which a reply names a limit.
@@ -71,4 +74,56 @@ pub(crate) fn limited(alloc: Global, passed: Limit) -> Result<Bytes, NoMemory>
     ensures { IfOk result (λ frame. frame ≡ limit_out passed) }
 {
     reply_frame(alloc, 2, &[code_of(passed)])
+}
+
+/// The reply to a call that was made as commit `n`: the reply to a write, or the number in eight bytes.
+pub(crate) fn made(alloc: Global, call: &Call, n: u64) -> Result<Bytes, NoMemory>
+    ensures { IfOk result (λ frame. frame ≡ answer_bytes (made_answer call.now n)) }
+{
+    match call {
+        Call::Write(_) => {
+            let body = written_reply(alloc, n)?;
+            reply_frame(alloc, 0, body.as_slice())
+        }
+        Call::Ack(_) => reply_frame(alloc, 0, &n.to_le_bytes()),
+        Call::Fail(_) => reply_frame(alloc, 0, &n.to_le_bytes()),
+    }
+}
+
+// The commit of a message's id in eight bytes, its index in four, and its payload.
+fn message_body(alloc: Global, message: &Message) -> Result<Vec<u8>, AllocError>
+    ensures { IfOk result (λ body. body.items ≡ id_bytes message.now.id ++ message.now.payload) }
+{
+    let mut body = Vec::with_capacity(alloc, 12)?;
+    body.extend_from_slice(&message.id.commit.to_le_bytes())?;
+    body.extend_from_slice(&message.id.index.to_le_bytes())?;
+    body.extend_from_slice(message.payload.as_slice())?;
+    Ok(body)
+}
+
+/// The reply to a take that gives this message.
+pub(crate) fn leased(alloc: Global, message: &Message) -> Result<Bytes, NoMemory>
+    ensures { IfOk result (λ frame. frame ≡ answer_bytes (Leased message.now)) }
+{
+    match message_body(alloc, message) {
+        Ok(body) => reply_frame(alloc, 0, &body),
+        Err(_) => Err(NoMemory),
+    }
+}
+
+/// The reply to a take that finds nothing due: when something will be, or eight bytes FF where nothing waits.
+pub(crate) fn nothing(alloc: Global, next: Option<u64>) -> Result<Bytes, NoMemory>
+    ensures { IfOk result (λ frame. frame ≡ answer_bytes (Nothing next)) }
+{
+    match next {
+        Some(moment) => reply_frame(alloc, 6, &moment.to_le_bytes()),
+        None => reply_frame(alloc, 6, &[0xff; 8]),
+    }
+}
+
+/// The reply to the settlement of a message that isn't out.
+pub(crate) fn no_lease(alloc: Global) -> Result<Bytes, NoMemory>
+    ensures { IfOk result (λ frame. frame ≡ answer_bytes NoLease) }
+{
+    reply_frame(alloc, 7, &[])
 }

@@ -1,7 +1,6 @@
-use Rattle.std.proofs.Common.{ℕ, ◌+◌, ◌<◌, List, length, take, sym, subst, arith}
+use Rattle.std.proofs.Common.{◌+◌, ◌<◌, List, length, take, sym, subst, arith}
 use Rattle.std.specs.Prelude.{Result, Ok, Err, OnErr}
 use Rattle.dkv_base.specs.declared.types.Answer.{Answer}
-use Rattle.dkv_core.specs.Runs.{IsCutShort}
 use Rattle.dkv_core.proofs.Running.{Ran, ran_next, cut_short}
 use Rattle.dkv_core.proofs.machine.Core.run.Goals as goal
 

@@ -15,5 +15,5 @@ pub returns-in-Err-clause-run : goal.returns-in-Err-clause-run
 returns-in-Err-clause-run g c = λ from left0 held0 held is.
     let s = c.args.self.now in
     let piece = take c.in-Bytes.n c.read.new.into in
-    memory_ends from left0 held0 s.core s.core (s.input ++ piece) s.at (g.S.Source.left c.read.new.self) held (g.S.Source.ended c.read.new.self) (record { state = refl; greatest = refl })
+    memory_ends from left0 held0 s.core s.core (s.input ++ piece) s.at (g.S.Source.left c.read.new.self) held (g.S.Source.ended c.read.new.self) (record { state = refl; out = refl; greatest = refl })
     (more_on from left0 held0 s.core s.input s.at (g.S.Source.left c.args.source.now) held (g.S.Source.left c.read.new.self) piece is c.in-Bytes.ensures.from)
