@@ -16,13 +16,9 @@ fi
 cmp -s examples/first.frames crates/dkv_app/stdin || fail "examples/first.frames is not the program's stored input"
 [ "$(cat crates/dkv_app/args)" = pipe ] || fail "the program's stored words are not 'pipe'"
 if command -v xxd >/dev/null 2>&1; then
-    # The bytes that first.txt spells, line by line, before the replies and in them.
-    spelled() {
-        grep -E '^ +([0-9A-F]{2} )*[0-9A-F]{2}( {2,}|$)' | sed -E 's/^ +(([0-9A-F]{2} )*[0-9A-F]{2}).*$/\1/' | tr -d ' \n' | tr 'A-F' 'a-f'
-    }
-    wanted=$(sed '/^The replies/,$d' examples/first.txt | spelled)
+    wanted=$(sed '/^The replies/,$d' examples/first.txt | .ci/spelled)
     [ "$wanted" = "$(xxd -p examples/first.frames | tr -d '\n')" ] || fail "examples/first.txt spells another input"
-    wanted=$(sed '1,/^The replies/d' examples/first.txt | spelled)
+    wanted=$(sed '1,/^The replies/d' examples/first.txt | .ci/spelled)
     [ "$wanted" = "$(xxd -p crates/dkv_app/stdout | tr -d '\n')" ] || fail "examples/first.txt spells another output"
 fi
 exit $status
