@@ -59,7 +59,7 @@ for keys in 1000 100000; do
     over load range "$keys" 20000
     over load set "$keys" 500000
     over load sum "$keys" 500000
-    over endings expiry "$keys" 500000
+    over endings expiry "$keys" 50000
 done
 for waiting in 10 100000; do
     over waiting round "$waiting" 200000
