@@ -1,3 +1,4 @@
+//! The list under the system's mutex, beside which the turn is timed.
 ghost use Rattle.std.specs.Prelude.{◌<◌};
 ghost use Rattle.std.specs.Thread.{IsSync};
 
@@ -29,8 +30,13 @@ fn mark_in_threads<R: Threads + Wait + Sync>(
     );
 }
 
-/// The number of items that all threads added.
-pub fn total<R: Threads + Wait + Sync>(rt: &R, alloc: Global, others: u32, rounds: u32) -> usize {
+// The number of items that all threads added.
+pub(crate) fn total<R: Threads + Wait + Sync>(
+    rt: &R,
+    alloc: Global,
+    others: u32,
+    rounds: u32,
+) -> usize {
     let marks = Mutex::new(Vec::new(alloc));
     mark_in_threads(rt, &marks, others, rounds);
     marks.into_inner().len()

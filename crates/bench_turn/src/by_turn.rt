@@ -1,7 +1,8 @@
-ghost use Rattle.std.specs.Prelude.{◌≡◌, ℕ, ◌+◌, ◌<◌, ◌≤◌, length};
+//! The tally under the turn: each thread has a pass of its own.
+ghost use Rattle.std.specs.Prelude.{◌≡◌, ◌<◌, ◌≤◌, ◌+◌};
 ghost use Rattle.std.specs.Thread.{IsSync};
-ghost use Rattle.dkv_turn.specs.Passes.{view, loan, gone, left, IsOutside, Same};
-ghost use Rattle.dkv_turn.specs.Words.{IsOf};
+ghost use Rattle.dkv_turn.specs.Passes.{left, Same};
+ghost use Rattle.bench_turn.specs.Free.{IsFree, KeepsNumbers};
 
 use crate::tally::Tally;
 use dkv_turn::{Pass, Turn};
@@ -10,11 +11,9 @@ use std::sync::Wait;
 use std::thread::{Threads, join};
 
 // Adds an item of its own, unless memory is wanting.
-fn mark<R: Wait>(rt: &R, turn: &Turn<Tally>, pass: &mut Pass<Tally>)
-    requires own { IsOf (λ _. tt) turn.now pass.old }
-    requires outside { IsOutside pass.old × (loan pass.old ≡ 0) }
-    ensures own { IsOf (λ _. tt) turn.now pass.new }
-    ensures outside { IsOutside pass.new × (loan pass.new ≡ 0) }
+pub(crate) fn mark<R: Wait>(rt: &R, turn: &Turn<Tally>, pass: &mut Pass<Tally>)
+    requires free { IsFree turn.now pass.old }
+    ensures free { IsFree turn.now pass.new }
     ensures same { Same pass.old pass.new }
 {
     let mut held = turn.enter(rt, pass);
@@ -23,10 +22,8 @@ fn mark<R: Wait>(rt: &R, turn: &Turn<Tally>, pass: &mut Pass<Tally>)
 }
 
 fn mark_often<R: Wait>(rt: &R, turn: &Turn<Tally>, pass: Pass<Tally>, rounds: u32) -> Pass<Tally>
-    requires own { IsOf (λ _. tt) turn.now pass }
-    requires outside { IsOutside pass × (loan pass ≡ 0) }
-    ensures own { IsOf (λ _. tt) turn.now result }
-    ensures outside { IsOutside result × (loan result ≡ 0) }
+    requires free { IsFree turn.now pass }
+    ensures free { IsFree turn.now result }
     ensures same { Same pass result }
 {
     let mut pass = pass;
@@ -36,7 +33,7 @@ fn mark_often<R: Wait>(rt: &R, turn: &Turn<Tally>, pass: Pass<Tally>, rounds: u3
     pass
 }
 
-// Each thread has a pass of its own. The passes are one again at the end.
+// The passes are one again at the end.
 fn mark_in_threads<R: Threads + Wait + Sync>(
     rt: &R,
     turn: &Turn<Tally>,
@@ -44,13 +41,10 @@ fn mark_in_threads<R: Threads + Wait + Sync>(
     others: u32,
     rounds: u32,
 ) -> Pass<Tally>
-    requires own { IsOf (λ _. tt) turn.now pass }
-    requires outside { IsOutside pass × (loan pass ≡ 0) }
+    requires free { IsFree turn.now pass }
     requires left { others ≤ left pass }
-    ensures own { IsOf (λ _. tt) turn.now result }
-    ensures outside { IsOutside result × (loan result ≡ 0) }
-    ensures marked { (view result).marked ≡ (view pass).marked }
-    ensures all { length (gone result) + left result ≡ length (gone pass) + left pass }
+    ensures free { IsFree turn.now result }
+    ensures numbers { KeepsNumbers pass result }
 {
     if others == 0 {
         return mark_often(rt, turn, pass, rounds);
@@ -62,31 +56,33 @@ fn mark_in_threads<R: Threads + Wait + Sync>(
     let (mut pass, other) = join(
         rt,
         || -> Pass<Tally>
-            requires { IsSync R.row × IsOf (λ _. tt) turn.now pass × IsOutside pass × (loan pass ≡ 0) × (0 < others) × (others ≤ left pass + 1) }
-            ensures { IsOf (λ _. tt) turn.entry.now result × IsOutside result × (loan result ≡ 0) × ((view result).marked ≡ (view pass).marked) × (length (gone result) + left result ≡ length (gone pass) + left pass) }
+            requires { IsSync R.row × IsFree turn.now pass × (0 < others)
+                × (others ≤ left pass + 1) }
+            ensures { IsFree turn.entry.now result × KeepsNumbers pass result }
         { mark_in_threads(rt, turn, pass, others - 1, rounds) },
         || -> Pass<Tally>
-            requires { IsOf (λ _. tt) turn.now other × IsOutside other × (loan other ≡ 0) }
-            ensures { IsOf (λ _. tt) turn.entry.now result × IsOutside result × (loan result ≡ 0) × Same other result }
+            requires { IsFree turn.now other }
+            ensures { IsFree turn.entry.now result × Same other result }
         { mark_often(rt, turn, other, rounds) },
     );
     turn.join(&mut pass, other);
     pass
 }
 
-/// The number of items that all threads added. It is nothing where memory is wanting for the lock.
-pub fn total<R: Threads + Wait + Sync>(
+// The tally once all threads have added their items. It is nothing where memory is wanting for the lock.
+pub(crate) fn tally_of<R: Threads + Wait + Sync>(
     rt: &R,
     alloc: Global,
     others: u32,
     rounds: u32,
-) -> Option<usize> {
+) -> Option<Tally> {
     let tally = Tally {
         marks: Vec::new(alloc),
+        lent: 0,
     };
     let Ok((turn, pass)) = Turn::new(alloc, tally) else {
         return None;
     };
     let pass = mark_in_threads(rt, &turn, pass, others, rounds);
-    Some(turn.close(pass).marks.len())
+    Some(turn.close(pass))
 }

@@ -21,7 +21,10 @@ fn items_of<R: Threads + Wait + Sync>(
     rounds: u32,
 ) -> Option<usize> {
     match lock {
-        "turn" => by_turn::total(rt, alloc, others, rounds),
+        "turn" => {
+            let tally = by_turn::tally_of(rt, alloc, others, rounds)?;
+            Some(tally.marks.len())
+        }
         "mutex" => Some(by_mutex::total(rt, alloc, others, rounds)),
         _ => None,
     }
@@ -51,3 +54,6 @@ fn number(word: Option<String>) -> u32 {
         None => 0,
     }
 }
+
+#[cfg(test)]
+mod tests;

@@ -1,11 +1,13 @@
+//! The value that the benchmark and its tests guard.
 ghost use Rattle.std.specs.Prelude.{◌≡◌};
 
 use dkv_turn::Chronicle;
 
-/// It has the number of each pass that marked it, in order.
+/// It has the number of each pass that marked it, in order, and a loan, of which 0 means none.
 #[derive(Drop)]
 pub struct Tally {
     pub marks: Vec<u32>,
+    pub lent: u64,
 }
 
 impl Chronicle for Tally {
@@ -17,7 +19,7 @@ impl Chronicle for Tally {
 
     ghost carries = { λ x. x };
 
-    ghost lent = { λ _. 0 };
+    ghost lent = { λ t. t.lent };
 
     ghost grounds = { λ _. tt };
 
@@ -26,6 +28,6 @@ impl Chronicle for Tally {
     }
 
     fn loan(&self) -> u64 {
-        0
+        self.lent
     }
 }

@@ -1,10 +1,14 @@
 -- What a status says: of which end, by which number, in which line.
-use Rattle.std.specs.Prelude.{ℕ, ◌⊎◌, List, [], ◌∷◌, ◌++◌, codes, decimal}
+--     Tells status P refused      P holds of the end that the status tells, or the words were refused
+--     Exits exit old new rose P      the exit status and the error line are those of a status of which P holds
+use Rattle.std.specs.Prelude.{◌≡◌, ℕ, ◌⊎◌, List, [], ◌∷◌, ◌++◌, codes, decimal}
 use Rattle.std.specs.declared.option.Option.{Option}
 use Rattle.std.specs.Io.KnownBytes.{Appends}
 use Rattle.dkv_io.specs.Streams.{AppendsFront}
 use Rattle.dkv_pipe.specs.declared.pipe.PipeEnd.{PipeEnd}
 use Rattle.dkv_pipe.specs.declared.pipe.PipeEnd.TheVariants as end
+use Rattle.dkv_app.specs.declared.program.NoWords.{NoWords}
+use Rattle.dkv_app.specs.declared.program.NoWords.TheVariants as why
 use Rattle.dkv_app.specs.declared.status.Status.{Status}
 use Rattle.dkv_app.specs.declared.status.Status.TheVariants as status
 
@@ -26,6 +30,11 @@ Tells status.WriteFault P refused = P end.WriteFault
 Tells (status.BadFrame at) P refused = P (end.BadFrame at)
 Tells status.NoMemory P refused = P end.NoMemory
 Tells (status.NotBuilt at) P refused = P (end.NotBuilt at)
+
+-- the status of words that can't be had: one that isn't text is in no form
+abbrev pub unheard : NoWords → Status
+unheard why.NotText = status.BadWords
+unheard why.NoMemory = status.NoMemory
 
 -- the exit status
 abbrev pub number : Status → ℕ
@@ -50,3 +59,11 @@ line (status.NotBuilt at) = codes "not built at " ++ decimal at ++ 10 ∷ []
 -- the line is written, or a front of it where the count rose
 abbrev pub Lines : Status → Option (List ℕ) → Option (List ℕ) → Type 0 → Type 0
 Lines s old new rose = Appends old new (line s) ⊎ (rose × AppendsFront old new (line s))
+
+-- the program ended with a status of which this holds: it exits by its number, and writes its line
+pub record Exits (exit : ℕ) (old new : Option (List ℕ)) (rose : Type 0)
+    (P : Status → Type 0) : Type 0 where
+  pub ended : Status
+  pub exits : exit ≡ number ended
+  pub writes : Lines ended old new rose
+  pub holds : P ended

@@ -1,3 +1,4 @@
+// The line of a status on the error output.
 ghost use Rattle.std.specs.Prelude.{◌≡◌, ◌∷◌, ◌++◌, [], OnOk, OnErr, decimal};
 ghost use Rattle.std.specs.Io.KnownBytes.{Appends};
 ghost use Rattle.dkv_io.specs.Causes.{Rose, HasCause};
@@ -10,8 +11,10 @@ use itoa::Buffer;
 
 // Writes a text, a place and the line's end.
 fn write_placed<E: Sink>(errors: &mut E, text: &[u8], at: u64) -> Result<(), Failed>
-    ensures all { OnOk result (Appends (E.held errors.old) (E.held errors.new) (text.now ++ decimal at ++ 10 ∷ [])) }
-    ensures front { OnErr result (AppendsFront (E.held errors.old) (E.held errors.new) (text.now ++ decimal at ++ 10 ∷ [])) }
+    ensures all { OnOk result
+        (Appends (E.held errors.old) (E.held errors.new) (text.now ++ decimal at ++ 10 ∷ [])) }
+    ensures front { OnErr result
+        (AppendsFront (E.held errors.old) (E.held errors.new) (text.now ++ decimal at ++ 10 ∷ [])) }
     ensures cause { HasCause (E.faults errors.old) (E.faults errors.new) result }
 {
     let mut digits = Buffer::new();
@@ -21,10 +24,11 @@ fn write_placed<E: Sink>(errors: &mut E, text: &[u8], at: u64) -> Result<(), Fai
 }
 
 // Writes the line of a status, which is nothing for Ok.
-#[tactic(auto, using(dkv_pipe::proofs::Written::appends_nothing))]
+#[tactic(auto, using(dkv_io::proofs::Written::appends_nothing))]
 fn write_line<E: Sink>(status: Status, errors: &mut E) -> Result<(), Failed>
     ensures all { OnOk result (Appends (E.held errors.old) (E.held errors.new) (line status)) }
-    ensures front { OnErr result (AppendsFront (E.held errors.old) (E.held errors.new) (line status)) }
+    ensures front { OnErr result
+        (AppendsFront (E.held errors.old) (E.held errors.new) (line status)) }
     ensures cause { HasCause (E.faults errors.old) (E.faults errors.new) result }
 {
     match status {
@@ -38,9 +42,11 @@ fn write_line<E: Sink>(status: Status, errors: &mut E) -> Result<(), Failed>
     }
 }
 
-/// Writes the line of a status to the error output. A failure to write it is passed over. Takes no memory.
+/// Writes the line of a status to the error output, without memory. A failure to write it is passed
+/// over.
 pub fn report<E: Sink>(status: Status, errors: &mut E)
-    ensures { Lines status (E.held errors.old) (E.held errors.new) (Rose (E.faults errors.old) (E.faults errors.new)) }
+    ensures { Lines status (E.held errors.old) (E.held errors.new)
+        (Rose (E.faults errors.old) (E.faults errors.new)) }
 {
     let _ = write_line(status, errors);
 }

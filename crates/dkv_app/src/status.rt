@@ -1,5 +1,7 @@
+// How a run of the program ended, by its exit status.
 ghost use Rattle.std.specs.Prelude.{◌≡◌};
 
+use crate::program::NoWords;
 use dkv_pipe::PipeEnd;
 
 /// How a run of the program ended.
@@ -9,17 +11,20 @@ pub enum Status {
     Ok,
     /// The words are in no form.
     BadWords,
+    /// A read of the input failed.
     ReadFault,
+    /// A write of a reply failed.
     WriteFault,
     /// No whole frame begins at this place, counted in bytes from the start of the input.
     BadFrame { at: u64 },
+    /// The allocator had no room.
     NoMemory,
     /// The frame at this place isn't answered yet.
     NotBuilt { at: u64 },
 }
 
 impl Status {
-    ghost use Rattle.dkv_app.specs.Statuses.{number, told};
+    ghost use Rattle.dkv_app.specs.Statuses.{number, told, unheard};
 
     /// The status of a run over frames.
     pub fn of(end: PipeEnd) -> Status
@@ -32,6 +37,16 @@ impl Status {
             PipeEnd::BadFrame { at } => Status::BadFrame { at },
             PipeEnd::NotBuilt { at } => Status::NotBuilt { at },
             PipeEnd::NoMemory => Status::NoMemory,
+        }
+    }
+
+    /// The status of words that can't be had.
+    pub fn unheard(why: NoWords) -> Status
+        ensures { result ≡ unheard why }
+    {
+        match why {
+            NoWords::NotText => Status::BadWords,
+            NoWords::NoMemory => Status::NoMemory,
         }
     }
 

@@ -1,4 +1,6 @@
+// Runs of the whole program over memory.
 mod ends;
+mod exits;
 mod expiry;
 mod limits;
 mod queue;

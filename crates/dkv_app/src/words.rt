@@ -1,5 +1,8 @@
+// The words behind the program's name, as the commands that they name.
 ghost use Rattle.std.specs.Prelude.{◌≡◌, ◌↔◌, ◌∷◌, [], map, true, IfOk, IfErr, string_bytes, codes};
 ghost use Rattle.dkv_app.specs.Forms.{InNoForm, IsForm};
+
+use thiserror::Error;
 
 /// A command and its words.
 #[derive(Clone, Copy, Debug, PartialEq, Eq)]
@@ -9,8 +12,10 @@ pub enum Words {
 }
 
 /// Why words name no command.
-#[derive(Clone, Copy, Debug, PartialEq, Eq)]
+#[derive(Clone, Copy, Debug, Error, PartialEq, Eq)]
 pub enum WordsError {
+    /// They are in no form of a command.
+    #[error("bad words")]
     BadWords,
 }
 

@@ -6,24 +6,26 @@ use Rattle.std.specs.Ordering.{is_lt}
 use Rattle.std.proofs.lemmas.Bool.{and_parts, and_from}
 use Rattle.std.proofs.lemmas.List.{append-nil}
 use Rattle.dkv_base.specs.declared.types.Entry.{Entry}
-use Rattle.dkv_base.specs.State.{entry_at, put, without, key_cmp, is_in_key_order}
+use Rattle.dkv_base.specs.State.{entry_cmp, entry_at, put, without, key_cmp, is_in_key_order}
 use Rattle.dkv_base.proofs.KeyOrder.{entry_at-put, entry_at-without}
-use Rattle.dkv_table.proofs.Keys.{eq-same, eq-above}
-use Rattle.dkv_table.proofs.Lists.{all_weaker}
+use Rattle.std.proofs.lemmas.Slice.Eq.{bytes_eq-Decides}
+use Rattle.dkv_table.proofs.Keys.{eq-turned, eq-above}
+use Rattle.dkv_base.proofs.Lists.{all_weaker}
 use Rattle.dkv_atomic.specs.Overlays.{Changes, is_apart}
-use Rattle.dkv_atomic.proofs.Lookups.{eq-turned}
-use Rattle.dkv_base.proofs.StaysSound.{all-put}
+use Rattle.dkv_base.proofs.Risings.{all-put_in}
 
+-- a put that takes the key out of the removed ones keeps the two apart
 pub apart-put : (e : Entry) (c : Changes) → is_apart c.puts c.gone ≡ true → is_apart (put e c.puts) (without e.key c.gone) ≡ true
 apart-put e c apart =
-    all-put (λ p. is_none (entry_at p.key (without e.key c.gone))) e c.puts
-    (ap is_none (entry_at-without e.key e.key c.gone ∙ ap (λ b. cond b None (entry_at e.key c.gone)) (eq-same e.key e.key refl)))
+    all-put_in entry_cmp (λ p. is_none (entry_at p.key (without e.key c.gone))) e c.puts
+    (ap is_none (entry_at-without e.key e.key c.gone ∙ ap (λ b. cond b None (entry_at e.key c.gone)) ((bytes_eq-Decides e.key e.key).1 refl)))
     (all_weaker (λ p. is_none (entry_at p.key c.gone)) (λ p. is_none (entry_at p.key (without e.key c.gone))) (λ p h. ap is_none (entry_at-without p.key e.key c.gone) ∙ fewer (bytes_eq e.key p.key) (entry_at p.key c.gone) h) c.puts apart)
   where
     fewer : (b : Bool) (old : Option Entry) → is_none old ≡ true → is_none (cond b None old) ≡ true
     fewer true old h = refl
     fewer false old h = h
 
+-- and so does a removal that takes it out of the puts
 pub apart-gone : (e : Entry) (c : Changes) → is_apart c.puts c.gone ≡ true → is_apart (without e.key c.puts) (put e c.gone) ≡ true
 apart-gone e c apart = kept c.puts apart
   where

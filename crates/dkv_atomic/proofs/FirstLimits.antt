@@ -5,7 +5,7 @@ use Rattle.std.specs.List.{list_any}
 use Rattle.std.specs.Option.{option_or, is_some}
 use Rattle.std.proofs.lemmas.List.{take_more, map-append, take-append-drop}
 use Rattle.dkv_base.specs.Limits.{first_some, when}
-use Rattle.dkv_base.specs.declared.types.Limit.{Limit}
+use Rattle.dkv_base.specs.declared.codes.Limit.{Limit}
 
 or_none : {A : Type 0} (x : Option A) → option_or x None ≡ x
 or_none None = refl

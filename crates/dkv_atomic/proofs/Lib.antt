@@ -1,5 +1,6 @@
 pub mod FirstLimits
 pub mod AllEntries
-pub mod Lookups
+pub mod Visible
+pub mod Overlaid
 pub mod Apart
 pub mod OneMutation

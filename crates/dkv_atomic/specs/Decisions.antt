@@ -2,11 +2,10 @@
 --     effected e es      the entries after the effects
 --     IsEffects es w at n e      the effects are what the write does to the entries that can be seen at the moment, as commit n
 --     IsDecision es w at n d      the decision on it
-use Rattle.std.specs.Prelude.{◌≡◌, ◌≢◌, ℕ, ◌≤◌, ◌==◌, Bool, List, [], ◌++◌, length, map, fold, Ok, Err, IsTrue, bytes_eq}
+use Rattle.std.specs.Prelude.{◌≡◌, ◌≢◌, ℕ, ◌≤◌, List, [], ◌++◌, length, map, fold, Ok, Err, IsTrue, bytes_eq}
 use Rattle.std.specs.List.{list_all, IsDistinct}
 use Rattle.dkv_base.specs.declared.types.AtomicWrite.{AtomicWrite}
 use Rattle.dkv_base.specs.declared.types.Entry.{Entry}
-use Rattle.dkv_base.specs.Limits.{from_zero}
 use Rattle.dkv_base.specs.State.{put, without, visible, is_visible}
 use Rattle.dkv_base.specs.Writes.{failing, mutated_all}
 use Rattle.dkv_atomic.specs.declared.decision.Effects.{Effects}
@@ -21,10 +20,6 @@ effected e es = fold (λ fs p. put p fs) (fold (λ fs key. without key fs) es e.
 abbrev pub changed_keys : Effects → List (List ℕ)
 changed_keys e = map (λ p. p.key) e.puts ++ e.removed
 
--- no mutation of the write has an expiry
-abbrev pub never_ends : AtomicWrite → Bool
-never_ends w = list_all (λ m. from_zero m.expire_at_ms == 0) w.mutations
-
 -- all checks hold and all mutations act: what they leave, each changed key once
 pub record IsEffects (es : List Entry) (w : AtomicWrite) (at n : ℕ) (e : Effects) : Type 0 where
   pub holds : failing w (visible at es) ≡ []
@@ -32,7 +27,6 @@ pub record IsEffects (es : List Entry) (w : AtomicWrite) (at n : ℕ) (e : Effec
   pub distinct : IsDistinct bytes_eq (changed_keys e)
   pub few : length e.puts ≤ length w.mutations
   pub seen : IsTrue (list_all (is_visible at) e.puts)
-  pub endless : IsTrue (never_ends w) → IsTrue (list_all (λ p. p.expire == 0) e.puts)
 
 -- the failing checks, where there are some; else the first mutation that meets no LE64; else the effects
 abbrev pub IsDecision : List Entry → AtomicWrite → ℕ → ℕ → Decision → Type 0

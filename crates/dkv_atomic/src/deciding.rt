@@ -1,3 +1,4 @@
+// What is decided of a write.
 ghost use Rattle.std.specs.Prelude.{◌≡◌, ◌≤◌, [], length, IfOk};
 ghost use Rattle.dkv_base.specs.Limits.{write_limit};
 ghost use Rattle.dkv_base.specs.State.{visible};
@@ -8,6 +9,7 @@ use crate::Decision;
 use crate::checks::failing_checks;
 use crate::mutations::act;
 use crate::overlay::Overlay;
+use dkv_base::limits::MAX_CHANGES;
 use dkv_base::{AtomicWrite, NoMemory};
 use dkv_table::Table;
 use std::alloc::Global;
@@ -20,7 +22,7 @@ fn act_all<T: Table>(
     at: u64,
     n: u64,
 ) -> Result<Decision, NoMemory>
-    requires few { length write.now.mutations ≤ 1000 }
+    requires few { length write.now.mutations ≤ MAX_CHANGES }
     requires holds { failing write.now (visible at (T.content table.now)) ≡ [] }
     ensures { IfOk result (λ d. IsDecision (T.content table.now) write.now at n d) }
 {

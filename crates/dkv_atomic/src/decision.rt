@@ -1,3 +1,4 @@
+// The answers to a write.
 use dkv_base::{Bytes, Entry, Run};
 
 /// What is decided of a write that passes no limit.

@@ -19,7 +19,7 @@ mod writes;
 pub use deciding::decide;
 pub use decision::{Decision, Effects};
 pub use reads::{read_limits, watch_limits};
-pub use seen::is_seen;
+pub use seen::is_visible;
 pub use writes::limits;
 
 #[cfg(test)]

@@ -1,18 +1,19 @@
 // The mutations of a write.
-ghost use Rattle.std.specs.Prelude.{◌≡◌, ◌++◌, IfOk, IsTrue};
+ghost use Rattle.std.specs.Prelude.{◌≡◌, IfOk, IsTrue};
 ghost use Rattle.std.specs.List.{list_all};
 ghost use Rattle.std.specs.Int.{w64, from_le_bytes};
-ghost use Rattle.dkv_base.specs.Limits.{operand, from_zero};
-ghost use Rattle.dkv_base.specs.State.{entry_at, visible, is_visible};
+ghost use Rattle.dkv_base.specs.Limits.{operand};
+ghost use Rattle.dkv_base.specs.State.{visible, is_visible};
 ghost use Rattle.dkv_base.specs.Writes.{new_value, combined, stored, stored_key};
 ghost use Rattle.dkv_atomic.specs.Numbers.{number_of};
-ghost use Rattle.dkv_atomic.specs.Overlays.{overlaid, IsStep};
+ghost use Rattle.dkv_atomic.specs.Overlays.{entry_behind, IsStep};
 
-use crate::kinds::{LE64, is_delete, is_number_kind, is_stamped};
-use crate::numbers::{calculated, le64, number};
+use crate::kinds::{is_arithmetic, is_delete, is_stamped};
+use crate::numbers::{le64, number, number_of};
 use crate::overlay::Overlay;
-use crate::seen::is_seen;
-use dkv_base::{Bytes, Entry, Mutation, NoMemory, TryCopy, Value};
+use crate::seen::is_visible;
+use dkv_base::encodings::LE64;
+use dkv_base::{Bytes, Entry, Mutation, NoMemory, TryCopy, Value, from_zero};
 use dkv_key::suffix;
 use dkv_table::Table;
 use std::alloc::Global;
@@ -42,13 +43,14 @@ fn operand_number(mutation: &Mutation) -> u64
 
 // What a SUM, MAX or MIN stores over the entry, or none where that is no LE64.
 fn number_over(alloc: Global, mutation: &Mutation, entry: &Entry) -> Result<Option<Value>, NoMemory>
-    ensures { IfOk result (λ value. value ≡ combined (number_of mutation.now) (Some entry.now) (operand mutation.now)) }
+    ensures { IfOk result (λ value.
+        value ≡ combined (number_of mutation.now) (Some entry.now) (operand mutation.now)) }
 {
     if entry.encoding != LE64 {
         return Ok(None);
     }
     let stored = number(entry.bytes.as_slice());
-    let made = calculated(mutation, stored, operand_number(mutation));
+    let made = number_of(mutation, stored, operand_number(mutation));
     Ok(Some(le64(alloc, made)?))
 }
 
@@ -60,9 +62,10 @@ fn value_of<T: Table>(
     mutation: &Mutation,
     at: u64,
 ) -> Result<Option<Value>, NoMemory>
-    ensures { IfOk result (λ value. value ≡ new_value mutation.now (entry_at mutation.now.key (overlaid overlay.now (visible at (T.content table.now))))) }
+    ensures { IfOk result (λ value.
+        value ≡ new_value mutation.now (entry_behind overlay.now (T.content table.now) at mutation.now.key)) }
 {
-    if !is_number_kind(mutation) {
+    if !is_arithmetic(mutation) {
         return Ok(Some(operand_of(alloc, mutation)?));
     }
     match overlay.found(table, mutation.key.as_slice(), at) {
@@ -71,36 +74,14 @@ fn value_of<T: Table>(
     }
 }
 
-fn joined(alloc: Global, front: &[u8], back: &[u8]) -> Result<Bytes, NoMemory>
-    ensures { IfOk result (λ bytes. bytes ≡ front.now ++ back.now) }
-{
-    let Ok(mut bytes) = Vec::from_slice(alloc, front) else {
-        return Err(NoMemory);
-    };
-    match bytes.extend_from_slice(back) {
-        Ok(()) => Ok(Bytes::of(bytes)),
-        Err(_) => Err(NoMemory),
-    }
-}
-
 // The key under which the mutation stores.
 fn key_of(alloc: Global, mutation: &Mutation, n: u64) -> Result<Bytes, NoMemory>
     ensures { IfOk result (λ key. key ≡ stored_key mutation.now n) }
 {
     if is_stamped(mutation) {
-        joined(alloc, mutation.key.as_slice(), &suffix(n))
+        Bytes::joined(alloc, mutation.key.as_slice(), &suffix(n))
     } else {
         mutation.key.copy(alloc)
-    }
-}
-
-fn expiry_of(mutation: &Mutation) -> u64
-    ensures { result ≡ from_zero mutation.now.expire_at_ms }
-{
-    if mutation.expire_at_ms > 0 {
-        mutation.expire_at_ms as u64
-    } else {
-        0
     }
 }
 
@@ -113,7 +94,7 @@ fn entry_of(alloc: Global, mutation: &Mutation, n: u64, value: Value) -> Result<
         bytes: value.bytes,
         encoding: value.encoding,
         commit: n,
-        expire: expiry_of(mutation),
+        expire: from_zero(mutation.expire_at_ms),
     })
 }
 
@@ -128,7 +109,8 @@ pub(crate) fn act<T: Table>(
     n: u64,
 ) -> Result<bool, NoMemory>
     requires { IsTrue (list_all (is_visible at) overlay.old.puts) }
-    ensures { IfOk result (λ went. IsStep mutation.now at n (visible at (T.content table.now)) overlay.old overlay.new went) }
+    ensures { IfOk result (λ went.
+        IsStep mutation.now at n (visible at (T.content table.now)) overlay.old overlay.new went) }
 {
     if is_delete(mutation) {
         overlay.remove(alloc, mutation.key.copy(alloc)?)?;
@@ -138,7 +120,7 @@ pub(crate) fn act<T: Table>(
         return Ok(false);
     };
     let entry = entry_of(alloc, mutation, n, value)?;
-    if is_seen(&entry, at) {
+    if is_visible(&entry, at) {
         overlay.put(entry)?;
     } else {
         overlay.remove(alloc, entry.key)?;

@@ -4,7 +4,8 @@ ghost use Rattle.std.specs.Int.{w64, from_le_bytes};
 ghost use Rattle.dkv_base.specs.Writes.{le64_value};
 ghost use Rattle.dkv_atomic.specs.Numbers.{number_of};
 
-use crate::kinds::{LE64, MAX, SUM};
+use dkv_base::encodings::LE64;
+use dkv_base::kinds::{MAX, SUM};
 use dkv_base::{Bytes, Mutation, NoMemory, Value};
 use std::alloc::Global;
 
@@ -32,7 +33,7 @@ pub(crate) fn number(bytes: &[u8]) -> u64
 }
 
 /// What a SUM, MAX or MIN makes of what is stored and its operand.
-pub(crate) fn calculated(mutation: &Mutation, stored: u64, operand: u64) -> u64
+pub(crate) fn number_of(mutation: &Mutation, stored: u64, operand: u64) -> u64
     ensures { result ≡ number_of mutation.now stored operand }
 {
     match mutation.kind {

@@ -2,9 +2,10 @@
 ghost use Rattle.std.specs.Prelude.{◌≡◌, ℕ, map, IfOk, OnOk, OnErr, IsTrue, bytes_eq};
 ghost use Rattle.std.specs.List.{IsDistinct};
 ghost use Rattle.std.specs.Option.{option_copied};
-ghost use Rattle.dkv_base.specs.State.{entry_at, visible, is_in_key_order};
+ghost use Rattle.dkv_base.specs.State.{entry_at, is_in_key_order};
 ghost use Rattle.dkv_atomic.specs.Decisions.{effected, changed_keys};
-ghost use Rattle.dkv_atomic.specs.Overlays.{overlaid, with_put, with_gone, marker, no_changes, is_apart};
+ghost use Rattle.dkv_atomic.specs.Overlays.{entry_behind, with_put, with_gone, no_changes, is_apart};
+ghost use Rattle.dkv_table.specs.Places.{marker};
 
 use crate::Effects;
 use crate::seen::seen_at;
@@ -50,7 +51,7 @@ impl Overlay {
         key: &[u8],
         at: u64,
     ) -> Option<&'a Entry>
-        ensures { option_copied result ≡ entry_at key.now (overlaid self.now (visible at (T.content table.now))) }
+        ensures { option_copied result ≡ entry_behind self.now (T.content table.now) at key.now }
     {
         match self.puts.get(key) {
             Some(entry) => Some(entry),
@@ -61,7 +62,7 @@ impl Overlay {
     // The entry under a key that was not put.
     fn left<'a, T: Table>(&'a self, table: &'a T, key: &[u8], at: u64) -> Option<&'a Entry>
         requires { entry_at key.now self.now.puts ≡ None }
-        ensures { option_copied result ≡ entry_at key.now (overlaid self.now (visible at (T.content table.now))) }
+        ensures { option_copied result ≡ entry_behind self.now (T.content table.now) at key.now }
     {
         match self.gone.get(key) {
             Some(_) => None,
@@ -116,13 +117,7 @@ impl Overlay {
 fn keys_of(alloc: Global, entries: Run<Entry>) -> Result<Run<Bytes>, NoMemory>
     ensures { IfOk result (λ keys. keys ≡ map (λ e. e.key) entries) }
 {
-    match entries
-        .into_vec()
-        .into_iter()
-        .map(|entry| entry.key)
-        .collect(alloc)
-    {
-        Ok(keys) => Ok(Run::of(keys)),
-        Err(_) => Err(NoMemory),
-    }
+    let entries = entries.into_vec().into_iter();
+    let keys: Vec<Bytes> = entries.map(|entry| entry.key).collect(alloc)?;
+    Ok(Run::of(keys))
 }

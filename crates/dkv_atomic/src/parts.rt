@@ -1,10 +1,12 @@
+// Parts of a request: the limits and the bytes of each, and of all of them.
 ghost use Rattle.std.specs.Prelude.{◌≡◌, ℕ, map, sum_by, length};
 ghost use Rattle.std.specs.List.{list_any};
 ghost use Rattle.std.specs.declared.option.Option.{Option as Maybe};
 ghost use Rattle.dkv_base.specs.Limits.{first_some, is_bad_key};
-ghost use Rattle.dkv_base.specs.declared.types.Limit.{Limit as Passed};
+ghost use Rattle.dkv_base.specs.declared.codes.Limit.{Limit as Passed};
 ghost use Rattle.dkv_atomic.specs.Sums.{capped};
 
+use dkv_base::limits::MAX_KEY_BYTES;
 use dkv_base::{Bytes, Limit};
 
 /// What has limits of its own, whatever stands beside it.
@@ -66,28 +68,31 @@ pub(crate) fn other_sum<T: Counted>(parts: &[T]) -> usize
     sum
 }
 
-/// The bytes of these keys.
-pub(crate) fn length_sum(keys: &[Bytes]) -> usize
-    ensures { result ≡ capped (sum_by length keys.now) }
-{
-    let mut sum = 0usize;
-    for key in keys {
-        sum = sum.saturating_add(key.as_slice().len());
+impl Counted for Bytes {
+    ghost keys = { λ key. length key };
+
+    ghost others = { λ _. 0 };
+
+    fn key_bytes(&self) -> usize {
+        self.len()
     }
-    sum
+
+    fn other_bytes(&self) -> usize {
+        0
+    }
 }
 
-/// A key of 0 or more than 2,048 bytes.
-pub(crate) fn is_bad(key: &Bytes) -> bool
+/// No key: one of no bytes, or of too many.
+pub(crate) fn is_bad_key(key: &Bytes) -> bool
     ensures { result ≡ is_bad_key key.now }
 {
-    let len = key.as_slice().len();
-    len == 0 || len > 2048
+    let len = key.len();
+    len == 0 || len > MAX_KEY_BYTES
 }
 
 /// Whether one of the keys is bad.
-pub(crate) fn is_some_bad(keys: &[Bytes]) -> bool
+pub(crate) fn is_some_bad_key(keys: &[Bytes]) -> bool
     ensures { result ≡ list_any is_bad_key keys.now }
 {
-    keys.iter().any(is_bad)
+    keys.iter().any(is_bad_key)
 }

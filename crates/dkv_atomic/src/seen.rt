@@ -7,7 +7,7 @@ use dkv_base::Entry;
 use dkv_table::Table;
 
 /// Whether the entry has not ended at the moment, in milliseconds since 1970. Takes no memory.
-pub fn is_seen(entry: &Entry, at: u64) -> bool
+pub fn is_visible(entry: &Entry, at: u64) -> bool
     ensures { result ≡ is_visible at entry.now }
 {
     entry.expire == 0 || at < entry.expire
@@ -20,7 +20,7 @@ pub(crate) fn seen_at<'a, T: Table>(table: &'a T, key: &[u8], at: u64) -> Option
     match table.get(key) {
         None => None,
         Some(entry) => {
-            if is_seen(entry, at) {
+            if is_visible(entry, at) {
                 Some(entry)
             } else {
                 None

@@ -1,12 +1,19 @@
+// The limits of a write.
 ghost use Rattle.std.specs.Prelude.{◌≡◌, ◌+◌, ◌∷◌, [], map, length, sum_by, nat_lt};
 ghost use Rattle.std.specs.List.{list_any};
-ghost use Rattle.dkv_base.specs.declared.types.Limit.TheVariants as limit;
-ghost use Rattle.dkv_atomic.specs.Sums.{capped};
 ghost use Rattle.dkv_base.specs.Limits.{write_limit, check_limit, mutation_limit, value_limit, enqueue_limit, is_bad_mutation_key, interval_limit, undelivered_limit, value_length, first_some, when, all_bytes, key_bytes};
+ghost use Rattle.dkv_base.specs.declared.codes.Limit.TheVariants as limit;
+ghost use Rattle.dkv_base.specs.declared.types.Profile.TheVariants.{Narrow};
+ghost use Rattle.dkv_atomic.specs.Sums.{capped};
 
-use crate::kinds::{BYTES, LE64, V8, is_delete, is_kind_known, is_number_kind, is_stamped};
+use crate::kinds::{is_arithmetic, is_delete, is_known_kind, is_stamped};
 use crate::parts::{
-    Counted, Limited, first_limit, is_bad, is_some_bad, key_sum, length_sum, other_sum,
+    Counted, Limited, first_limit, is_bad_key, is_some_bad_key, key_sum, other_sum,
+};
+use dkv_base::encodings::{BYTES, LE64, V8};
+use dkv_base::limits::{
+    LE64_BYTES, MAX_CHANGES, MAX_CHECKS, MAX_INTERVAL_MS, MAX_INTERVALS, MAX_STAMPED_KEY_BYTES,
+    MAX_UNDELIVERED, MAX_VALUE_BYTES, MAX_WRITE_BYTES, MAX_WRITE_KEY_BYTES, STAMP_BYTES,
 };
 use dkv_base::{AtomicWrite, Bytes, Check, Enqueue, Limit, Mutation, Value};
 
@@ -14,10 +21,10 @@ impl Limited for Check {
     ghost own_limit = { check_limit };
 
     fn limit(&self) -> Option<Limit> {
-        let stamp = self.versionstamp.as_slice().len();
-        if is_bad(&self.key) {
+        let stamp = self.versionstamp.len();
+        if is_bad_key(&self.key) {
             Some(Limit::CheckKey)
-        } else if stamp != 0 && stamp != 10 {
+        } else if stamp != 0 && stamp != STAMP_BYTES {
             Some(Limit::CheckStamp)
         } else {
             None
@@ -31,7 +38,7 @@ impl Counted for Check {
     ghost others = { λ _. 0 };
 
     fn key_bytes(&self) -> usize {
-        self.key.as_slice().len()
+        self.key.len()
     }
 
     fn other_bytes(&self) -> usize {
@@ -39,47 +46,47 @@ impl Counted for Check {
     }
 }
 
-fn is_key_bad(mutation: &Mutation) -> bool
+fn is_bad_mutation_key(mutation: &Mutation) -> bool
     ensures { result ≡ is_bad_mutation_key mutation.now }
 {
     if is_stamped(mutation) {
-        mutation.key.as_slice().len() > 2026
+        mutation.key.len() > MAX_STAMPED_KEY_BYTES
     } else {
-        is_bad(&mutation.key)
+        is_bad_key(&mutation.key)
     }
 }
 
 // The first limit of the value of a mutation that isn't a DELETE.
-fn of_value(mutation: &Mutation) -> Option<Limit>
-    ensures { result ≡ value_limit mutation.now }
+fn value_limit(mutation: &Mutation) -> Option<Limit>
+    ensures { result ≡ value_limit Narrow mutation.now }
 {
     let Some(value) = &mutation.value else {
         return Some(Limit::NoValue);
     };
-    let is_number = is_number_kind(mutation);
-    let len = value.bytes.as_slice().len();
+    let takes_number = is_arithmetic(mutation);
+    let len = value.bytes.len();
     match value.encoding {
-        LE64 if len != 8 => Some(Limit::Le64Length),
-        V8 if is_number => Some(Limit::V8Operand),
-        BYTES if is_number => Some(Limit::BytesOperand),
-        V8 | LE64 | BYTES if len > 65536 => Some(Limit::ValueLength),
+        LE64 if len != LE64_BYTES => Some(Limit::Le64Length),
+        V8 if takes_number => Some(Limit::V8Operand),
+        BYTES if takes_number => Some(Limit::BytesOperand),
+        V8 | LE64 | BYTES if len > MAX_VALUE_BYTES => Some(Limit::ValueLength),
         V8 | LE64 | BYTES => None,
         _ => Some(Limit::Encoding),
     }
 }
 
 impl Limited for Mutation {
-    ghost own_limit = { mutation_limit };
+    ghost own_limit = { mutation_limit Narrow };
 
     fn limit(&self) -> Option<Limit> {
-        if !is_kind_known(self) {
+        if !is_known_kind(self) {
             Some(Limit::MutationKind)
-        } else if is_key_bad(self) {
+        } else if is_bad_mutation_key(self) {
             Some(Limit::MutationKey)
         } else if is_delete(self) {
             None
         } else {
-            of_value(self)
+            value_limit(self)
         }
     }
 }
@@ -90,61 +97,53 @@ impl Counted for Mutation {
     ghost others = { value_length };
 
     fn key_bytes(&self) -> usize {
-        self.key.as_slice().len()
+        self.key.len()
     }
 
     fn other_bytes(&self) -> usize {
         match &self.value {
-            Some(value) if !is_delete(self) => value.bytes.as_slice().len(),
+            Some(value) if !is_delete(self) => value.bytes.len(),
             _ => 0,
         }
     }
 }
 
-fn is_some_long(intervals: &[u32]) -> bool
-    ensures { result ≡ list_any (λ n. nat_lt 3600000 n) intervals.now }
+fn is_some_interval_long(intervals: &[u32]) -> bool
+    ensures { result ≡ list_any (λ n. nat_lt MAX_INTERVAL_MS n) intervals.now }
 {
-    intervals.iter().any(|interval| *interval > 3600000)
+    intervals.iter().any(|interval| *interval > MAX_INTERVAL_MS)
 }
 
-fn of_intervals(intervals: &[u32]) -> Option<Limit>
+fn intervals_limit(intervals: &[u32]) -> Option<Limit>
     ensures { result ≡ first_some (map interval_limit intervals.now) }
 {
-    if is_some_long(intervals) {
-        Some(Limit::BackoffInterval)
-    } else {
-        None
-    }
+    is_some_interval_long(intervals).then_some(Limit::BackoffInterval)
 }
 
-fn of_undelivered(keys: &[Bytes]) -> Option<Limit>
+fn undelivered_limit(keys: &[Bytes]) -> Option<Limit>
     ensures { result ≡ first_some (map undelivered_limit keys.now) }
 {
-    if is_some_bad(keys) {
-        Some(Limit::UndeliveredKey)
-    } else {
-        None
-    }
+    is_some_bad_key(keys).then_some(Limit::UndeliveredKey)
 }
 
 impl Limited for Enqueue {
-    ghost own_limit = { enqueue_limit };
+    ghost own_limit = { enqueue_limit Narrow };
 
     fn limit(&self) -> Option<Limit> {
-        if self.payload.as_slice().len() > 65536 {
+        if self.payload.len() > MAX_VALUE_BYTES {
             return Some(Limit::PayloadLength);
         }
-        if self.backoff.as_slice().len() > 10 {
+        if self.backoff.len() > MAX_INTERVALS {
             return Some(Limit::BackoffCount);
         }
-        let interval = of_intervals(self.backoff.as_slice());
+        let interval = intervals_limit(self.backoff.as_slice());
         if interval.is_some() {
             return interval;
         }
-        if self.undelivered.as_slice().len() > 10 {
+        if self.undelivered.len() > MAX_UNDELIVERED {
             return Some(Limit::UndeliveredCount);
         }
-        of_undelivered(self.undelivered.as_slice())
+        undelivered_limit(self.undelivered.as_slice())
     }
 }
 
@@ -154,16 +153,16 @@ impl Counted for Enqueue {
     ghost others = { λ q. length q.payload };
 
     fn key_bytes(&self) -> usize {
-        length_sum(self.undelivered.as_slice())
+        key_sum(self.undelivered.as_slice())
     }
 
     fn other_bytes(&self) -> usize {
-        self.payload.as_slice().len()
+        self.payload.len()
     }
 }
 
 // The bytes of all keys, at most the last value of a usize.
-fn all_keys(write: &AtomicWrite) -> usize
+fn key_bytes(write: &AtomicWrite) -> usize
     ensures { result ≡ capped (key_bytes write.now) }
 {
     key_sum(write.checks.as_slice())
@@ -172,39 +171,39 @@ fn all_keys(write: &AtomicWrite) -> usize
 }
 
 // The bytes of all keys, values and payloads, at most the last value of a usize.
-fn all_sum(write: &AtomicWrite) -> usize
+fn all_bytes(write: &AtomicWrite) -> usize
     ensures { result ≡ capped (all_bytes write.now) }
 {
-    all_keys(write)
+    key_bytes(write)
         .saturating_add(other_sum(write.mutations.as_slice()))
         .saturating_add(other_sum(write.enqueues.as_slice()))
 }
 
-fn of_counts(write: &AtomicWrite) -> Option<Limit>
-    ensures { result ≡ first_some (when (nat_lt 100 (length write.now.checks)) limit.TooManyChecks
-        ∷ when (nat_lt 1000 (length write.now.mutations + length write.now.enqueues)) limit.TooManyMutations ∷ []) }
+fn counts_limit(write: &AtomicWrite) -> Option<Limit>
+    ensures { result ≡ first_some (
+        when (nat_lt MAX_CHECKS (length write.now.checks)) limit.TooManyChecks
+        ∷ when (nat_lt MAX_CHANGES (length write.now.mutations + length write.now.enqueues)) limit.TooManyMutations
+        ∷ []) }
 {
-    let parts = write
-        .mutations
-        .as_slice()
-        .len()
-        .saturating_add(write.enqueues.as_slice().len());
-    if write.checks.as_slice().len() > 100 {
+    let changes = write.mutations.len().saturating_add(write.enqueues.len());
+    if write.checks.len() > MAX_CHECKS {
         Some(Limit::TooManyChecks)
-    } else if parts > 1000 {
+    } else if changes > MAX_CHANGES {
         Some(Limit::TooManyMutations)
     } else {
         None
     }
 }
 
-fn of_sums(write: &AtomicWrite) -> Option<Limit>
-    ensures { result ≡ first_some (when (nat_lt 819200 (all_bytes write.now)) limit.TotalBytes
-        ∷ when (nat_lt 81920 (key_bytes write.now)) limit.TotalKeyBytes ∷ []) }
+fn sums_limit(write: &AtomicWrite) -> Option<Limit>
+    ensures { result ≡ first_some (
+        when (nat_lt MAX_WRITE_BYTES (all_bytes write.now)) limit.TotalBytes
+        ∷ when (nat_lt MAX_WRITE_KEY_BYTES (key_bytes write.now)) limit.TotalKeyBytes
+        ∷ []) }
 {
-    if all_sum(write) > 819200 {
+    if all_bytes(write) > MAX_WRITE_BYTES {
         Some(Limit::TotalBytes)
-    } else if all_keys(write) > 81920 {
+    } else if key_bytes(write) > MAX_WRITE_KEY_BYTES {
         Some(Limit::TotalKeyBytes)
     } else {
         None
@@ -216,9 +215,9 @@ fn of_sums(write: &AtomicWrite) -> Option<Limit>
 pub fn limits(write: &AtomicWrite) -> Option<Limit>
     ensures { result ≡ write_limit write.now }
 {
-    of_counts(write)
+    counts_limit(write)
         .or_else(|| first_limit(write.checks.as_slice()))
         .or_else(|| first_limit(write.mutations.as_slice()))
         .or_else(|| first_limit(write.enqueues.as_slice()))
-        .or_else(|| of_sums(write))
+        .or_else(|| sums_limit(write))
 }

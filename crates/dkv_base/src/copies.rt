@@ -1,7 +1,8 @@
+// Copies, which take memory.
 ghost use Rattle.std.specs.Prelude.{◌≡◌, IfOk};
 
 use crate::{
-    AtomicWrite, Bytes, Check, Commit, Enqueue, Entry, Item, Message, Mutation, NoMemory,
+    AtomicWrite, Bytes, Check, Commit, Enqueue, Entry, Item, Message, MsgId, Mutation, NoMemory,
     ReadRange, Run, Value,
 };
 use std::alloc::Global;
@@ -19,6 +20,12 @@ impl TryCopy for u32 {
     }
 }
 
+impl TryCopy for MsgId {
+    fn copy(&self, _alloc: Global) -> Result<MsgId, NoMemory> {
+        Ok(*self)
+    }
+}
+
 impl TryCopy for Bytes {
     fn copy(&self, alloc: Global) -> Result<Bytes, NoMemory> {
         Bytes::copy_of(alloc, self.as_slice())
@@ -30,10 +37,7 @@ impl<T: TryCopy + Drop> TryCopy for Run<T> {
         let items = self.as_slice();
         let mut copies = Run::new(alloc);
         for item in items {
-            let copy = item.copy(alloc)?;
-            if copies.push(copy).is_err() {
-                return Err(NoMemory);
-            }
+            copies.add(item.copy(alloc)?)?;
         }
         Ok(copies)
     }
@@ -175,97 +179,5 @@ impl TryCopy for Item {
                 last: *last,
             }),
         }
-    }
-}
-
-#[cfg(test)]
-mod tests {
-    use super::*;
-    use crate::MsgId;
-    use std::fmt::Debug;
-    use std::test::Fail;
-
-    fn prints_as_its_copy<T: TryCopy + Debug + Drop>(
-        alloc: Global,
-        value: T,
-    ) -> Result<bool, Fail> {
-        let copy = value.copy(alloc)?;
-        let texts = (
-            format!(in alloc; "{copy:?}")?,
-            format!(in alloc; "{value:?}")?,
-        );
-        Ok(texts.0 == texts.1)
-    }
-
-    fn no_bytes(alloc: Global) -> Bytes {
-        Bytes::of(Vec::new(alloc))
-    }
-
-    #[test]
-    fn a_runs_copy_has_its_items(rt: HostRuntime) -> Result<(), Fail> {
-        let mut run = Run::new(rt.alloc());
-        run.push(7)?;
-        run.push(9)?;
-        let copy: Run<u32> = run.copy(rt.alloc())?;
-        assert_eq!(rt; copy.as_slice(), [7, 9].as_slice());
-        Ok(())
-    }
-
-    #[test]
-    fn a_copy_has_the_bytes(rt: HostRuntime) -> Result<(), Fail> {
-        let bytes = Bytes::copy_of(rt.alloc(), b"abc")?;
-        let copy = bytes.copy(rt.alloc())?;
-        assert_eq!(rt; copy.as_slice(), b"abc".as_slice());
-        Ok(())
-    }
-
-    #[test]
-    fn entries_and_messages_print_as_their_copies(rt: HostRuntime) -> Result<(), Fail> {
-        let alloc = rt.alloc();
-        let entry = Entry {
-            key: no_bytes(alloc),
-            bytes: no_bytes(alloc),
-            encoding: 1,
-            commit: 2,
-            expire: 3,
-        };
-        assert!(rt; prints_as_its_copy(alloc, entry)?);
-        let message = Message {
-            id: MsgId {
-                commit: 1,
-                index: 2,
-            },
-            payload: no_bytes(alloc),
-            due: 3,
-            fails: 4,
-            undelivered: Run::new(alloc),
-            backoff: Run::new(alloc),
-        };
-        assert!(rt; prints_as_its_copy(alloc, message)?);
-        Ok(())
-    }
-
-    #[test]
-    fn what_is_asked_and_done_prints_as_its_copy(rt: HostRuntime) -> Result<(), Fail> {
-        let alloc = rt.alloc();
-        let range = ReadRange {
-            start: no_bytes(alloc),
-            end: no_bytes(alloc),
-            limit: 6,
-            reverse: true,
-        };
-        assert!(rt; prints_as_its_copy(alloc, range)?);
-        let write = AtomicWrite {
-            checks: Run::new(alloc),
-            mutations: Run::new(alloc),
-            enqueues: Run::new(alloc),
-        };
-        let item = Item::Made(Commit::Wrote {
-            who: 1,
-            at: 5,
-            write,
-        });
-        assert!(rt; prints_as_its_copy(alloc, item)?);
-        Ok(())
     }
 }

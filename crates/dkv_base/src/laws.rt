@@ -1,5 +1,6 @@
+// The laws of the definitions, each proved on a function of no arguments.
 ghost use Rattle.dkv_base.specs.Laws.{AfterComposes, LegalComposes, AfterNothing, AfterIsSound};
-ghost use Rattle.dkv_base.specs.Laws.{EntriesAreAMap, LooksUp, PutInserts, WithoutRemoves, StepsAreTold, NarrowIsLegal};
+ghost use Rattle.dkv_base.specs.Laws.{EntriesAreAMap, LooksUp, PutInserts, WithoutRemoves, StepsAreTold};
 
 /// Legal commits lead from one sound state to another, and those in a row lead where their parts lead in turn.
 pub fn commits_compose()
@@ -20,9 +21,4 @@ pub fn entries_are_a_map()
 /// After any steps of a term the situation is told by its base and its trail, and the trail is legal.
 pub fn steps_are_told()
     ensures { StepsAreTold }
-{}
-
-/// Legality at the narrow profile is plain legality.
-pub fn narrow_is_legal()
-    ensures { NarrowIsLegal }
 {}

@@ -15,11 +15,11 @@ use Rattle.dkv_base.specs.declared.types.Message.{Message}
 use Rattle.dkv_base.specs.Messages.{made, made_from}
 use Rattle.dkv_base.specs.Sound.{is_schedule}
 use Rattle.dkv_base.specs.State.{id_cmp, is_in_id_order}
-use Rattle.dkv_base.proofs.StaysSound.{id_below_commit}
+use Rattle.dkv_base.proofs.SoundIds.{id_below_commit}
 use Rattle.dkv_queue.specs.declared.row.Row.{Row}
-use Rattle.dkv_queue.specs.Rows.{messages_of, row_at, row_cmp, added, has_schedule}
+use Rattle.dkv_queue.specs.Rows.{messages_of, row_at, row_cmp, added, has_schedule, out_of}
 use Rattle.dkv_core.specs.Cores.{is_made_by}
-use Rattle.dkv_core.specs.Rows.{out_of, is_above}
+use Rattle.dkv_core.specs.Rows.{is_above}
 use Rattle.dkv_core.proofs.OneCommit.{same_id-turned}
 use Rattle.dkv_core.proofs.Rows.{lt-other}
 
@@ -103,8 +103,7 @@ made_schedules n (m ∷ added) made =
     let parts = and_parts (is_made_by n m) _ made in
     let fits = and_parts ((m.id.commit == n) && is_schedule m.backoff) _ parts.0 in
     let schedule = (and_parts (m.id.commit == n) _ fits.0).1 in
-    let counts = (and_parts (nat_le 1 (length m.backoff) && nat_le (length m.backoff) 10) _ schedule).0 in
-    and_from (has_schedule m) _ (and_from (nat_le 1 (length m.backoff) && nat_le (length m.backoff) 10) _ counts fits.1) (made_schedules n added parts.1)
+    and_from (has_schedule m) _ (and_from (is_schedule m.backoff) _ schedule fits.1) (made_schedules n added parts.1)
 
 -- ---- the messages of a write
 

@@ -9,25 +9,29 @@ use Rattle.dkv_base.specs.declared.types.Call.TheVariants.{Write}
 use Rattle.dkv_base.specs.declared.types.Commit.TheVariants.{Wrote}
 use Rattle.dkv_base.specs.declared.types.Enqueue.{Enqueue}
 use Rattle.dkv_base.specs.declared.types.Entry.{Entry}
-use Rattle.dkv_base.specs.declared.types.Limit.{Limit}
+use Rattle.dkv_base.specs.declared.codes.Limit.{Limit}
+use Rattle.dkv_base.specs.declared.types.Profile.TheVariants.{Narrow}
 use Rattle.dkv_base.specs.Limits.{write_limit, enqueue_limit}
 use Rattle.dkv_base.specs.Messages.{made, made_from}
 use Rattle.dkv_base.specs.Sound.{is_schedule}
-use Rattle.dkv_base.specs.State.{is_empty, seen, visible, max_moment}
+use Rattle.dkv_base.specs.State.{is_empty, seen, visible}
+use Rattle.dkv_base.specs.declared.moments.TheConstants.{MAX_MOMENT}
 use Rattle.dkv_base.specs.Writes.{failing, mutated_all}
 use Rattle.dkv_base.specs.After.{after, entries_after, is_legal_in}
-use Rattle.dkv_base.proofs.StaysSound.{NoneOf, within, payload_made, order_made_from}
-use Rattle.dkv_base.proofs.Told.{FailsFit}
+use Rattle.dkv_base.proofs.WithinLimits.{NoneOf, within}
+use Rattle.dkv_base.proofs.SoundMessages.{payload_made}
+use Rattle.dkv_base.proofs.SoundIds.{order_made_from}
+use Rattle.dkv_base.proofs.AfterNothing.{FailsFit}
 use Rattle.dkv_atomic.specs.declared.decision.Effects.{Effects}
 use Rattle.dkv_atomic.specs.Decisions.{IsEffects, effected}
-use Rattle.dkv_core.specs.Cores.{Whole, Change, IsEffective, applied, is_made_by, ends}
+use Rattle.dkv_core.specs.Cores.{Database, Change, IsEffective, applied, is_made_by, ends}
 use Rattle.dkv_core.specs.Decisions.{Goes}
 use Rattle.dkv_core.proofs.OneCommit.{pending-wrote, entries-one}
 
 -- ---- a write
 
 -- the messages of its enqueues are its own
-made_by_write : (n i : ℕ) (qs : List Enqueue) → NoneOf enqueue_limit qs → list_all (is_made_by n) (made_from n i qs) ≡ true
+made_by_write : (n i : ℕ) (qs : List Enqueue) → NoneOf (enqueue_limit Narrow) qs → list_all (is_made_by n) (made_from n i qs) ≡ true
 made_by_write n i [] free = refl
 made_by_write n i (q ∷ qs) free =
     let payload = and_parts _ (is_schedule (made n i q).backoff) (payload_made n i q free.0) in
@@ -39,7 +43,7 @@ made_by_write n i (q ∷ qs) free =
 abbrev pub change_of : ℕ → ℕ → AtomicWrite → Effects → Change
 change_of n at w e = record { number = n; moment = at; puts = e.puts; removed = e.removed; added = made_from n 0 w.enqueues; settled = None }
 
-module _ (c : Whole) (who at n : ℕ) (w : AtomicWrite) (e : Effects) (fit : FailsFit c.state.messages) (next : n ≡ c.state.number + 1) (does : IsEffects c.state.entries w at n e) where
+module _ (c : Database) (who at n : ℕ) (w : AtomicWrite) (e : Effects) (fit : FailsFit c.state.messages) (next : n ≡ c.state.number + 1) (does : IsEffects c.state.entries w at n e) where
   entries_made : effected e (visible at c.state.entries) ≡ entries_after c.state (Wrote who at w ∷ [])
   entries_made =
       let es = visible at c.state.entries in
@@ -55,10 +59,10 @@ module _ (c : Whole) (who at n : ℕ) (w : AtomicWrite) (e : Effects) (fit : Fai
     messages = (ap (λ (k : ℕ). c.state.messages ++ made_from k 0 w.enqueues) next ∙ sym (pending-wrote who at w c.state fit)) i;
   }
 
-  write_legal : c.state.moment ≤ at → at ≤ max_moment → write_limit w ≡ None → is_legal_in c.state (Wrote who at w) ≡ true
+  write_legal : c.state.moment ≤ at → at ≤ MAX_MOMENT → write_limit w ≡ None → is_legal_in c.state (Wrote who at w) ≡ true
   write_legal late latest free =
-      and_from (nat_le c.state.moment at && nat_le at max_moment) _
-      (and_from (nat_le c.state.moment at) _ (le-leb c.state.moment at late) (le-leb at max_moment latest))
+      and_from (nat_le c.state.moment at && nat_le at MAX_MOMENT) _
+      (and_from (nat_le c.state.moment at) _ (le-leb c.state.moment at late) (le-leb at MAX_MOMENT latest))
       (and_from (is_none (write_limit w) && is_empty (failing w (seen c.state at))) _
       (and_from (is_none (write_limit w)) _ (ap (λ (o : Option Limit). is_none o) free) (ap (λ (places : List ℕ). is_empty places) does.holds))
       (ap (λ (k : ℕ). is_ok (mutated_all w k at (seen c.state at))) (sym next) ∙ ap (λ (r : Result (List Entry) ℕ). is_ok r) does.entries))

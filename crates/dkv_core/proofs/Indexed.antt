@@ -1,20 +1,18 @@
 -- The index has exactly the ends of the entries, after each change too.
-use Rattle.std.proofs.Common.{◌≡◌, ℕ, ◌<◌, ◌≤◌, Bool, true, false, cond, not, ◌&&◌, ◌||◌, List, [], ◌∷◌, ◌++◌, length, Option, Some, None, refl, sym, ap, ◌∙◌, arith, append_assoc}
+use Rattle.std.proofs.Common.{◌≡◌, ℕ, ◌<◌, ◌≤◌, Bool, true, false, cond, not, ◌&&◌, ◌||◌, List, [], ◌∷◌, length, Option, Some, None, refl, sym, ap, ◌∙◌, arith}
 use Rattle.std.specs.Prelude.{bytes_eq, nat_lt, ◌==◌, option_map}
-use Rattle.std.specs.List.{list_all}
 use Rattle.std.specs.Option.{option_map_or}
-use Rattle.std.specs.Ordering.{is_lt, match_ordering}
-use Rattle.std.proofs.lemmas.List.{append-nil}
-use Rattle.std.proofs.lemmas.Bool.{and_parts, and_from, eqb-true, eq-eqb, lt-ltb, ltb-true, false≢true}
+use Rattle.std.proofs.lemmas.Bool.{and_parts, eqb-true, eq-eqb, lt-ltb, ltb-true, false≢true}
 use Rattle.dkv_base.specs.declared.types.Entry.{Entry}
-use Rattle.dkv_base.specs.State.{entry_at, put, without, visible, is_visible, key_cmp, is_in_key_order}
-use Rattle.dkv_base.proofs.KeyOrder.{entry_at-put, entry_at-without, is_in_key_order-filter, entries_are_a_map}
-use Rattle.dkv_table.proofs.Keys.{eq-same, greater}
-use Rattle.dkv_atomic.proofs.Lookups.{eq-turned, same_bytes, if_visible, entry_at-visible}
+use Rattle.dkv_base.specs.State.{entry_cmp, entry_at, put, without, visible, is_visible, is_in_key_order}
+use Rattle.dkv_base.proofs.KeyOrder.{entry_at-put, entry_at-without, entries_are_a_map}
+use Rattle.dkv_base.proofs.Risings.{rising-filter}
+use Rattle.std.proofs.lemmas.Slice.Eq.{bytes_eq-Decides}
+use Rattle.dkv_table.proofs.Keys.{eq-turned}
+use Rattle.dkv_atomic.proofs.Visible.{if_visible, entry_at-visible}
 use Rattle.dkv_expiry.specs.declared.ending.Ending.{Ending}
 use Rattle.dkv_expiry.specs.Endings.{has, same_ending, ending, noted, dropped, first_upto}
 use Rattle.dkv_expiry.proofs.Membership.{has-noted, has-dropped, upto-none, upto-some}
-use Rattle.dkv_core.specs.Cores.{put_all}
 use Rattle.dkv_core.specs.Entries.{IsIndexed, forgot, noted_of, note_of}
 
 -- the entry ends so
@@ -27,7 +25,7 @@ pub found_key : (key : List ℕ) (es : List Entry) (e : Entry) → entry_at key 
 found_key key [] e is = absurd (cc is)
 found_key key (f ∷ fs) e is =
     elim (bytes_eq key f.key) as (λ b. bytes_eq key f.key ≡ b → cond b (Some f) (entry_at key fs) ≡ Some e → e.key ≡ key) [
-      | true ↦ λ same here. let f_is : f ≡ e = cc here in ap (λ (x : Entry). x.key) (sym f_is) ∙ sym (same_bytes key f.key same)
+      | true ↦ λ same here. let f_is : f ≡ e = cc here in ap (λ (x : Entry). x.key) (sym f_is) ∙ sym ((bytes_eq-Decides key f.key).0 same)
       | false ↦ λ other later. found_key key fs e later
     ] refl is
 
@@ -112,7 +110,7 @@ left : (q : Ending) (key : List ℕ) (es : List Entry) (old : Option Entry) → 
     → (not (own_end old q) && end_of (entry_at q.key es) q) ≡ (not (bytes_eq q.key key) && end_of (entry_at q.key es) q)
 left q key es old is =
     elim (bytes_eq q.key key) as (λ b. bytes_eq q.key key ≡ b → (not (own_end old q) && end_of (entry_at q.key es) q) ≡ (not b && end_of (entry_at q.key es) q)) [
-      | true ↦ λ same. here old is (same_bytes q.key key same)
+      | true ↦ λ same. here old is ((bytes_eq-Decides q.key key).0 same)
       | false ↦ λ other. there old is other
     ] refl
   where
@@ -130,7 +128,7 @@ left q key es old is =
         off false = refl
     here (Some e) is same =
         let found : entry_at q.key es ≡ Some e = ap (λ k. entry_at k es) same ∙ is in
-        let one : bytes_eq q.key e.key ≡ true = eq-same q.key e.key (sym (found_key q.key es e found)) in
+        let one : bytes_eq q.key e.key ≡ true = (bytes_eq-Decides q.key e.key).1 (sym (found_key q.key es e found)) in
         ap (λ o. not (bytes_eq q.key e.key && ends_so e q) && end_of o q) found
         ∙ cut (bytes_eq q.key e.key) (ends_so e q) (sym (ap (λ b. b && ends_so e q) one))
 
@@ -200,23 +198,23 @@ unseen at e some early = (λ i. some i || nat_lt at e.expire) ∙ not_below
 -- what has ended can be taken out
 pub ended_gone : (at : ℕ) (key : List ℕ) (es : List Entry) (e : Entry) → is_in_key_order es ≡ true → entry_at key es ≡ Some e → is_visible at e ≡ false → visible at (without key es) ≡ visible at es
 ended_gone at key es e order found gone =
-    entries_are_a_map (visible at (without key es)) (visible at es) (is_in_key_order-filter (is_visible at) (without key es) fewer) (is_in_key_order-filter (is_visible at) es order) (λ q.
+    entries_are_a_map (visible at (without key es)) (visible at es) (rising-filter entry_cmp (is_visible at) (without key es) fewer) (rising-filter entry_cmp (is_visible at) es order) (λ q.
     entry_at-visible at q (without key es) fewer
     ∙ ap (if_visible at) (entry_at-without q key es)
     ∙ cut q (bytes_eq key q) refl
     ∙ sym (entry_at-visible at q es order))
   where
     fewer : is_in_key_order (without key es) ≡ true
-    fewer = is_in_key_order-filter (λ f. not (bytes_eq key f.key)) es order
+    fewer = rising-filter entry_cmp (λ f. not (bytes_eq key f.key)) es order
 
     cut : (q : List ℕ) (b : Bool) → bytes_eq key q ≡ b → if_visible at (cond b None (entry_at q es)) ≡ if_visible at (entry_at q es)
-    cut q true same = sym (ap (if_visible at) (ap (λ k. entry_at k es) (sym (same_bytes key q same)) ∙ found) ∙ ap (λ v. cond v (Some e) None) gone)
+    cut q true same = sym (ap (if_visible at) (ap (λ k. entry_at k es) (sym ((bytes_eq-Decides key q).0 same)) ∙ found) ∙ ap (λ v. cond v (Some e) None) gone)
     cut q false other = refl
 
 -- where no end is at the moment or before it, all can be seen
 pub none_ended : (at : ℕ) (es : List Entry) (ps : List Ending) → is_in_key_order es ≡ true → IsIndexed es ps → ((q : Ending) → has q ps ≡ true → at < q.at) → visible at es ≡ es
 none_ended at es ps order is late =
-    entries_are_a_map (visible at es) es (is_in_key_order-filter (is_visible at) es order) order (λ q. entry_at-visible at q es order ∙ all q (entry_at q es) refl)
+    entries_are_a_map (visible at es) es (rising-filter entry_cmp (is_visible at) es order) order (λ q. entry_at-visible at q es order ∙ all q (entry_at q es) refl)
   where
     seen : (q : List ℕ) (e : Entry) → entry_at q es ≡ Some e → is_visible at e ≡ true
     seen q e found =
@@ -291,31 +289,3 @@ note_none e ps is =
       | true ↦ λ h. refl
       | false ↦ λ h. absurd (cc h)
     ] is
-
--- ---- entries in order, put one after the other
-
-first_put : (e : Entry) (es : List Entry) → list_all (λ f. is_lt (key_cmp f.key e.key)) es ≡ true → put e es ≡ es ++ e ∷ []
-first_put e [] below = refl
-first_put e (f ∷ fs) below =
-    let parts = and_parts (is_lt (key_cmp f.key e.key)) _ below in
-    (λ i. match_ordering (greater f.key e.key parts.0 i) (e ∷ f ∷ fs) (e ∷ fs) (f ∷ put e fs)) ∙ ap (λ gs. f ∷ gs) (first_put e fs parts.1)
-
-below_last : (es : List Entry) (e : Entry) (rest : List Entry) → is_in_key_order (es ++ e ∷ rest) ≡ true → list_all (λ f. is_lt (key_cmp f.key e.key)) es ≡ true
-below_last [] e rest order = refl
-below_last (f ∷ fs) e rest order =
-    let parts = and_parts (list_all (λ g. is_lt (key_cmp f.key g.key)) (fs ++ e ∷ rest)) _ order in
-    and_from (is_lt (key_cmp f.key e.key)) _ (among fs parts.0) (below_last fs e rest parts.1)
-  where
-    among : (gs : List Entry) → list_all (λ g. is_lt (key_cmp f.key g.key)) (gs ++ e ∷ rest) ≡ true → is_lt (key_cmp f.key e.key) ≡ true
-    among [] h = (and_parts (is_lt (key_cmp f.key e.key)) _ h).0
-    among (g ∷ gs) h = among gs (and_parts (is_lt (key_cmp f.key g.key)) _ h).1
-
-put_on : (es rest : List Entry) → is_in_key_order (es ++ rest) ≡ true → put_all rest es ≡ es ++ rest
-put_on es [] order = sym (append-nil es)
-put_on es (e ∷ rest) order =
-    ap (λ fs. put_all rest fs) (first_put e es (below_last es e rest order))
-    ∙ put_on (es ++ e ∷ []) rest (ap is_in_key_order (append_assoc es (e ∷ []) rest) ∙ order)
-    ∙ append_assoc es (e ∷ []) rest
-
-pub put_in_order : (es : List Entry) → is_in_key_order es ≡ true → put_all es [] ≡ es
-put_in_order es order = put_on [] es order

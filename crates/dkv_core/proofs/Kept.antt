@@ -6,13 +6,14 @@ use Rattle.std.proofs.lemmas.Bool.{and_parts, and_from, le-leb, leb-true, eqb-tr
 use Rattle.std.proofs.lemmas.List.Folds.{list_all-append}
 use Rattle.dkv_base.specs.declared.types.Message.{Message}
 use Rattle.dkv_base.specs.declared.types.MsgId.{MsgId}
+use Rattle.dkv_base.specs.declared.limits.TheConstants.{MAX_VALUE_BYTES, MAX_UNDELIVERED}
 use Rattle.dkv_base.specs.Sound.{is_schedule, is_payload, is_number, is_waiting, is_good_key}
 use Rattle.dkv_base.specs.State.{same_id}
-use Rattle.dkv_base.proofs.StaysSound.{all-filter}
-use Rattle.dkv_base.proofs.Told.{FailsFit}
-use Rattle.dkv_queue.specs.Rows.{has_schedule}
+use Rattle.dkv_base.proofs.Lists.{all-filter}
+use Rattle.dkv_base.proofs.AfterNothing.{FailsFit}
+use Rattle.dkv_queue.specs.Rows.{has_schedule, with_failure}
 use Rattle.dkv_core.specs.Cores.{is_kept, is_made_by}
-use Rattle.dkv_core.specs.Settling.{failed_once, is_last_failure, after_ack, after_failure, after_settlement}
+use Rattle.dkv_core.specs.Settling.{is_last_failure, after_ack, after_failure, after_settlement}
 use Rattle.dkv_core.specs.declared.prepared.Settled.{Settled}
 
 pub fits : (n : ℕ) (ms : List Message) → list_all (is_kept n) ms ≡ true → FailsFit ms
@@ -31,9 +32,9 @@ kept_later n k (m ∷ ms) le h =
     and_from (is_kept k m) _ (and_from (nat_le m.id.commit k) _ (le-leb m.id.commit k (omega (arith, le, leb-true m.id.commit n both.0))) both.1) (kept_later n k ms le parts.1)
 
 -- one failure more, where it isn't one too many
-one_more : (n at : ℕ) (id : MsgId) (m : Message) → is_kept n m ≡ true → not (is_last_failure id m) ≡ true → is_kept n (cond (same_id id m.id) (failed_once at m) m) ≡ true
+one_more : (n at : ℕ) (id : MsgId) (m : Message) → is_kept n m ≡ true → not (is_last_failure id m) ≡ true → is_kept n (cond (same_id id m.id) (with_failure at m) m) ≡ true
 one_more n at id m h other =
-    elim (same_id id m.id) as (λ b. not (b && (m.fails == length m.backoff)) ≡ true → is_kept n (cond b (failed_once at m) m) ≡ true) [
+    elim (same_id id m.id) as (λ b. not (b && (m.fails == length m.backoff)) ≡ true → is_kept n (cond b (with_failure at m) m) ≡ true) [
       | true ↦ λ left.
           let both = and_parts (nat_le m.id.commit n) _ h in
           and_from (nat_le m.id.commit n) _ both.0 (le-leb (m.fails + 1) (length m.backoff) (rise m.fails (length m.backoff) (leb-true m.fails (length m.backoff) both.1) (λ same. false≢true (ap not (sym (eq-eqb m.fails (length m.backoff) same)) ∙ left))))
@@ -48,8 +49,8 @@ kept-failure n at id [] h = refl
 kept-failure n at id (m ∷ ms) h =
     let parts = and_parts (is_kept n m) _ h in
     let rest = kept-failure n at id ms parts.1 in
-    elim (not (is_last_failure id m)) as (λ b. not (is_last_failure id m) ≡ b → list_all (is_kept n) (map (λ k. cond (same_id id k.id) (failed_once at k) k) (cond b (m ∷ filter (λ k. not (is_last_failure id k)) ms) (filter (λ k. not (is_last_failure id k)) ms))) ≡ true) [
-      | true ↦ λ left. and_from (is_kept n (cond (same_id id m.id) (failed_once at m) m)) _ (one_more n at id m parts.0 left) rest
+    elim (not (is_last_failure id m)) as (λ b. not (is_last_failure id m) ≡ b → list_all (is_kept n) (map (λ k. cond (same_id id k.id) (with_failure at k) k) (cond b (m ∷ filter (λ k. not (is_last_failure id k)) ms) (filter (λ k. not (is_last_failure id k)) ms))) ≡ true) [
+      | true ↦ λ left. and_from (is_kept n (cond (same_id id m.id) (with_failure at m) m)) _ (one_more n at id m parts.0 left) rest
       | false ↦ λ last. rest
     ] refl
 
@@ -95,6 +96,5 @@ schedules-sound n (m ∷ ms) h =
     let parts = and_parts (is_waiting n m) _ h in
     let fit = and_parts (is_payload m && is_number n m.id.commit) _ parts.0 in
     let payload = (and_parts (is_payload m) _ fit.0).0 in
-    let schedule = (and_parts (nat_le (length m.payload) 65536 && nat_le (length m.undelivered) 10 && list_all is_good_key m.undelivered) (is_schedule m.backoff) payload).1 in
-    let counts = (and_parts (nat_le 1 (length m.backoff) && nat_le (length m.backoff) 10) _ schedule).0 in
-    and_from (has_schedule m) _ (and_from (nat_le 1 (length m.backoff) && nat_le (length m.backoff) 10) _ counts fit.1) (schedules-sound n ms parts.1)
+    let schedule = (and_parts (nat_le (length m.payload) MAX_VALUE_BYTES && nat_le (length m.undelivered) MAX_UNDELIVERED && list_all is_good_key m.undelivered) (is_schedule m.backoff) payload).1 in
+    and_from (has_schedule m) _ (and_from (is_schedule m.backoff) _ schedule fit.1) (schedules-sound n ms parts.1)

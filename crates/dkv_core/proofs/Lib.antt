@@ -4,6 +4,7 @@ pub mod Settles
 pub mod Replying
 pub mod Running
 pub mod Indexed
+mod PutInOrder
 mod Seen
 pub mod Rows
 pub mod Added

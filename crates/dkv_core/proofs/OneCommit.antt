@@ -15,8 +15,9 @@ use Rattle.dkv_base.specs.declared.types.MsgId.{MsgId}
 use Rattle.dkv_base.specs.State.{State, same_id, visible}
 use Rattle.dkv_base.specs.Messages.{interval, as_after, is_pending, pending, made_from, moment_of, schedule_of}
 use Rattle.dkv_base.specs.After.{changed, entries_after}
-use Rattle.dkv_base.proofs.Told.{FailsFit}
-use Rattle.dkv_core.specs.Settling.{failed_once, is_last_failure, after_ack, after_failure}
+use Rattle.dkv_base.proofs.AfterNothing.{FailsFit}
+use Rattle.dkv_queue.specs.Rows.{with_failure}
+use Rattle.dkv_core.specs.Settling.{is_last_failure, after_ack, after_failure}
 
 same_number : (a b : ℕ) → (a == b) ≡ (b == a)
 same_number a b = both_ways (a == b) (b == a) (λ e. eq-eqb b a (sym (eqb-true a b e))) (λ e. eq-eqb a b (sym (eqb-true b a e)))
@@ -140,7 +141,7 @@ module _ (who at : ℕ) (id : MsgId) where
         | false ↦ still_fits m fits
       ]
 
-  fail_value : (m : Message) → as_after m failed ≡ cond (same_id id m.id) (failed_once at m) m
+  fail_value : (m : Message) → as_after m failed ≡ cond (same_id id m.id) (with_failure at m) m
   fail_value m =
       ap (λ b. record m {
         fails = m.fails + (0 + cond b 1 0);
@@ -149,9 +150,9 @@ module _ (who at : ℕ) (id : MsgId) where
       ∙ elim (same_id id m.id) as (λ b. record m {
         fails = m.fails + (0 + cond b 1 0);
         due = option_map_or (λ t. t + interval m.backoff (m.fails + (0 + cond b 1 0))) (then_some b at) m.due;
-      } ≡ cond b (failed_once at m) m) [ true ↦ refl | false ↦ left_alone m ]
+      } ≡ cond b (with_failure at m) m) [ true ↦ refl | false ↦ left_alone m ]
 
-  fail_leaves : (ms : List Message) → FailsFit ms → Alike (is_pending failed) (λ m. not (is_last_failure id m)) (λ m. as_after m failed) (λ m. cond (same_id id m.id) (failed_once at m) m) ms
+  fail_leaves : (ms : List Message) → FailsFit ms → Alike (is_pending failed) (λ m. not (is_last_failure id m)) (λ m. as_after m failed) (λ m. cond (same_id id m.id) (with_failure at m) m) ms
   fail_leaves [] fit = tt
   fail_leaves (m ∷ ms) fit = ((fail_test m fit.0, fail_value m), fail_leaves ms fit.1)
 
@@ -159,7 +160,7 @@ module _ (who at : ℕ) (id : MsgId) where
   pub pending-failed : (s : State) → FailsFit s.messages → pending s failed ≡ after_failure id at s.messages
   pending-failed s fit =
       ap (λ ms. map (λ m. as_after m failed) (filter (is_pending failed) ms)) (append-nil s.messages)
-      ∙ alike_passes (is_pending failed) (λ m. not (is_last_failure id m)) (λ m. as_after m failed) (λ m. cond (same_id id m.id) (failed_once at m) m) s.messages (fail_leaves s.messages fit)
+      ∙ alike_passes (is_pending failed) (λ m. not (is_last_failure id m)) (λ m. as_after m failed) (λ m. cond (same_id id m.id) (with_failure at m) m) s.messages (fail_leaves s.messages fit)
 
 -- ---- the entries
 

@@ -1,6 +1,6 @@
 -- What the rows of a queue say of the messages, and of those that are out.
 use Rattle.std.proofs.Common.{◌≡◌, ℕ, Bool, true, false, cond, not, ◌&&◌, ◌||◌, List, [], ◌∷◌, length, map, filter, Option, Some, None, refl, sym, ap, ◌∙◌}
-use Rattle.std.specs.Prelude.{nat_le, ◌==◌, find, option_map}
+use Rattle.std.specs.Prelude.{◌==◌, find, option_map}
 use Rattle.std.specs.List.{list_any, list_all, cons_option}
 use Rattle.std.specs.Option.{option_map_or}
 use Rattle.std.specs.Ordering.{is_lt}
@@ -9,50 +9,32 @@ use Rattle.std.proofs.lemmas.Cmp.{tied_itself}
 use Rattle.std.specs.Cmp.{IsTotalOrder, then_total, on_total, nat_cmp_total}
 use Rattle.dkv_base.specs.declared.types.Message.{Message}
 use Rattle.dkv_base.specs.declared.types.MsgId.{MsgId}
-use Rattle.dkv_base.specs.Messages.{exhausted}
-use Rattle.dkv_base.specs.State.{State, same_id, id_cmp, is_in_id_order}
-use Rattle.dkv_base.specs.Trails.{is_out, waiting, next, first_due, is_before}
-use Rattle.dkv_base.proofs.StaysSound.{order-filter}
-use Rattle.dkv_base.proofs.Told.{same_id-true, same_id_self}
+use Rattle.dkv_base.specs.Messages.{exhausted, is_out}
+use Rattle.dkv_base.specs.State.{same_id, id_cmp, is_in_id_order}
+use Rattle.dkv_base.proofs.NamedMessages.{same_id-true}
 use Rattle.dkv_queue.specs.declared.row.Row.{Row}
-use Rattle.dkv_queue.specs.Rows.{messages_of, is_row_of, is_taken, waits, waiting_of, due_at, message_at, taken, settled, failed, after_failure as row_after_failure}
-use Rattle.dkv_core.specs.Settling.{without_id, failed_once, is_last_failure, after_ack, after_failure, after_settlement, out_after}
-use Rattle.dkv_core.specs.Rows.{out_of, settled_rows}
+use Rattle.dkv_queue.specs.Rows.{messages_of, is_row_of, is_row_out, waits, message_at, handed_out, settled, failed, after_failure as row_after_failure, with_failure, out_of}
+use Rattle.dkv_queue.proofs.Laws.{out-rows}
+use Rattle.dkv_core.specs.Settling.{without_id, is_last_failure, after_ack, after_failure, after_settlement, out_after}
+use Rattle.dkv_core.specs.Rows.{settled_rows}
 use Rattle.dkv_core.specs.declared.prepared.Settled.{Settled}
 use Rattle.dkv_core.proofs.OneCommit.{same_id-turned}
 
 -- ---- what is out
 
-out_head : (id : MsgId) (r : Row) (rows : List Row) (b : Bool) → r.out ≡ b → is_out id (map (λ s. s.message.id) (cond b (r ∷ filter (λ s. s.out) rows) (filter (λ s. s.out) rows))) ≡ ((is_row_of id r && b) || is_out id (out_of rows))
-out_head id r rows true is = ap (λ t. t || is_out id (out_of rows)) (sym (and_true (is_row_of id r)))
-  where
-    and_true : (b : Bool) → (b && true) ≡ b
-    and_true true = refl
-    and_true false = refl
-out_head id r rows false is = ap (λ t. t || is_out id (out_of rows)) (sym (and_false (is_row_of id r)))
-  where
-    and_false : (b : Bool) → (b && false) ≡ false
-    and_false true = refl
-    and_false false = refl
-
--- an id is out where its row says so
-pub out-taken : (id : MsgId) (rows : List Row) → is_out id (out_of rows) ≡ is_taken id rows
-out-taken id [] = refl
-out-taken id (r ∷ rows) = out_head id r rows r.out refl ∙ ap (λ t. is_row_of id r && r.out || t) (out-taken id rows)
-
--- so its message is there
-pub taken_there : (id : MsgId) (rows : List Row) → is_taken id rows ≡ true → list_any (λ m. same_id id m.id) (messages_of rows) ≡ true
+-- the message of what is out is there
+pub taken_there : (id : MsgId) (rows : List Row) → is_row_out id rows ≡ true → list_any (λ m. same_id id m.id) (messages_of rows) ≡ true
 taken_there id [] h = h
-taken_there id (r ∷ rows) h = by (is_row_of id r) r.out (is_taken id rows) (taken_there id rows) h
+taken_there id (r ∷ rows) h = by (is_row_of id r) r.out (is_row_out id rows) (taken_there id rows) h
   where
     by : (a b t : Bool) → (t ≡ true → list_any (λ m. same_id id m.id) (messages_of rows) ≡ true) → (a && b || t) ≡ true → (a || list_any (λ m. same_id id m.id) (messages_of rows)) ≡ true
     by true b t rest h = refl
     by false b t rest h = rest h
 
 -- a message that is there and not out waits
-pub there_waits : (id : MsgId) (rows : List Row) → list_any (λ m. same_id id m.id) (messages_of rows) ≡ true → is_taken id rows ≡ false → waits id rows ≡ true
+pub there_waits : (id : MsgId) (rows : List Row) → list_any (λ m. same_id id m.id) (messages_of rows) ≡ true → is_row_out id rows ≡ false → waits id rows ≡ true
 there_waits id [] h out = h
-there_waits id (r ∷ rows) h out = by (is_row_of id r) r.out (is_taken id rows) (list_any (λ m. same_id id m.id) (messages_of rows)) (there_waits id rows) h out
+there_waits id (r ∷ rows) h out = by (is_row_of id r) r.out (is_row_out id rows) (list_any (λ m. same_id id m.id) (messages_of rows)) (there_waits id rows) h out
   where
     by : (a b t here : Bool) → (here ≡ true → t ≡ false → waits id rows ≡ true) → (a || here) ≡ true → (a && b || t) ≡ false → (a && not b || waits id rows) ≡ true
     by true true t here rest h out = absurd (false≢true (sym out))
@@ -61,41 +43,41 @@ there_waits id (r ∷ rows) h out = by (is_row_of id r) r.out (is_taken id rows)
 
 -- ---- a message that is taken
 
-pub messages-taken : (id : MsgId) (rows : List Row) → messages_of (taken id rows) ≡ messages_of rows
+pub messages-taken : (id : MsgId) (rows : List Row) → messages_of (handed_out id rows) ≡ messages_of rows
 messages-taken id [] = refl
 messages-taken id (r ∷ rows) =
-    elim (is_row_of id r) as (λ b. (let s : Row = cond b (record r { out = true }) r in s.message ∷ messages_of (taken id rows)) ≡ r.message ∷ messages_of rows) [
+    elim (is_row_of id r) as (λ b. (let s : Row = cond b (record r { out = true }) r in s.message ∷ messages_of (handed_out id rows)) ≡ r.message ∷ messages_of rows) [
       | true ↦ ap (λ ms. r.message ∷ ms) (messages-taken id rows)
       | false ↦ ap (λ ms. r.message ∷ ms) (messages-taken id rows)
     ]
 
-taken_other : (id k : MsgId) (rows : List Row) → same_id k id ≡ false → is_taken k (taken id rows) ≡ is_taken k rows
+taken_other : (id k : MsgId) (rows : List Row) → same_id k id ≡ false → is_row_out k (handed_out id rows) ≡ is_row_out k rows
 taken_other id k [] other = refl
 taken_other id k (r ∷ rows) other =
-    elim (is_row_of id r) as (λ b. is_row_of id r ≡ b → (let s : Row = cond b (record r { out = true }) r in is_row_of k s && s.out || is_taken k (taken id rows)) ≡ (is_row_of k r && r.out || is_taken k rows)) [
+    elim (is_row_of id r) as (λ b. is_row_of id r ≡ b → (let s : Row = cond b (record r { out = true }) r in is_row_of k s && s.out || is_row_out k (handed_out id rows)) ≡ (is_row_of k r && r.out || is_row_out k rows)) [
       | true ↦ λ is.
           let off : is_row_of k r ≡ false = ap (λ x. same_id k x) (sym (same_id-true id r.message.id is)) ∙ other in
-          (λ i. off i && true || taken_other id k rows other i) ∙ (λ i. sym off i && r.out || is_taken k rows)
+          (λ i. off i && true || taken_other id k rows other i) ∙ (λ i. sym off i && r.out || is_row_out k rows)
       | false ↦ λ is. ap (λ t. is_row_of k r && r.out || t) (taken_other id k rows other)
     ] refl
 
-taken_itself : (id : MsgId) (rows : List Row) → waits id rows ≡ true → is_taken id (taken id rows) ≡ true
+taken_itself : (id : MsgId) (rows : List Row) → waits id rows ≡ true → is_row_out id (handed_out id rows) ≡ true
 taken_itself id [] h = h
 taken_itself id (r ∷ rows) h =
-    elim (is_row_of id r) as (λ b. is_row_of id r ≡ b → (b && not r.out || waits id rows) ≡ true → (let s : Row = cond b (record r { out = true }) r in is_row_of id s && s.out || is_taken id (taken id rows)) ≡ true) [
-      | true ↦ λ is w. ap (λ t. t && true || is_taken id (taken id rows)) is
-      | false ↦ λ is w. ap (λ t. t && r.out || is_taken id (taken id rows)) is ∙ taken_itself id rows w
+    elim (is_row_of id r) as (λ b. is_row_of id r ≡ b → (b && not r.out || waits id rows) ≡ true → (let s : Row = cond b (record r { out = true }) r in is_row_of id s && s.out || is_row_out id (handed_out id rows)) ≡ true) [
+      | true ↦ λ is w. ap (λ t. t && true || is_row_out id (handed_out id rows)) is
+      | false ↦ λ is w. ap (λ t. t && r.out || is_row_out id (handed_out id rows)) is ∙ taken_itself id rows w
     ] refl h
 
 -- it is out, beside those that were
-pub out-more_taken : (id k : MsgId) (rows : List Row) → waits id rows ≡ true → is_out k (out_of (taken id rows)) ≡ (is_out k (out_of rows) || same_id k id)
+pub out-more_taken : (id k : MsgId) (rows : List Row) → waits id rows ≡ true → is_out k (out_of (handed_out id rows)) ≡ (is_out k (out_of rows) || same_id k id)
 out-more_taken id k rows w =
-    out-taken k (taken id rows)
-    ∙ elim (same_id k id) as (λ b. same_id k id ≡ b → is_taken k (taken id rows) ≡ (is_taken k rows || b)) [
-      | true ↦ λ same. ap (λ x. is_taken x (taken id rows)) (same_id-true k id same) ∙ taken_itself id rows w ∙ sym (or_true (is_taken k rows))
-      | false ↦ λ other. taken_other id k rows other ∙ sym (or_false (is_taken k rows))
+    out-rows k (handed_out id rows)
+    ∙ elim (same_id k id) as (λ b. same_id k id ≡ b → is_row_out k (handed_out id rows) ≡ (is_row_out k rows || b)) [
+      | true ↦ λ same. ap (λ x. is_row_out x (handed_out id rows)) (same_id-true k id same) ∙ taken_itself id rows w ∙ sym (or_true (is_row_out k rows))
+      | false ↦ λ other. taken_other id k rows other ∙ sym (or_false (is_row_out k rows))
     ] refl
-    ∙ ap (λ t. t || same_id k id) (sym (out-taken k rows))
+    ∙ ap (λ t. t || same_id k id) (sym (out-rows k rows))
   where
     or_true : (b : Bool) → (b || true) ≡ true
     or_true true = refl
@@ -122,13 +104,13 @@ messages-failed id at (r ∷ rows) =
     let rest = messages-failed id at rows in
     elim (is_row_of id r) as (λ b. is_row_of id r ≡ b
     → messages_of (cons_option (cond b (row_after_failure at r) (Some r)) (failed id at rows))
-    ≡ map (λ m. cond (same_id id m.id) (failed_once at m) m) (cond (not (b && (r.message.fails == length r.message.backoff))) (r.message ∷ filter (λ m. not (is_last_failure id m)) ms) (filter (λ m. not (is_last_failure id m)) ms))) [
-      | true ↦ λ is. elim (r.message.fails == length r.message.backoff) as (λ t. messages_of (cons_option (cond t None (Some (record { message = failed_once at r.message; out = false }))) (failed id at rows))
-          ≡ map (λ m. cond (same_id id m.id) (failed_once at m) m) (cond (not t) (r.message ∷ filter (λ m. not (is_last_failure id m)) ms) (filter (λ m. not (is_last_failure id m)) ms))) [
+    ≡ map (λ m. cond (same_id id m.id) (with_failure at m) m) (cond (not (b && (r.message.fails == length r.message.backoff))) (r.message ∷ filter (λ m. not (is_last_failure id m)) ms) (filter (λ m. not (is_last_failure id m)) ms))) [
+      | true ↦ λ is. elim (r.message.fails == length r.message.backoff) as (λ t. messages_of (cons_option (cond t None (Some (record { message = with_failure at r.message; out = false }))) (failed id at rows))
+          ≡ map (λ m. cond (same_id id m.id) (with_failure at m) m) (cond (not t) (r.message ∷ filter (λ m. not (is_last_failure id m)) ms) (filter (λ m. not (is_last_failure id m)) ms))) [
             | true ↦ rest
-            | false ↦ λ i. sym (ap (λ t. cond t (failed_once at r.message) r.message) is) i ∷ rest i
+            | false ↦ λ i. sym (ap (λ t. cond t (with_failure at r.message) r.message) is) i ∷ rest i
           ]
-      | false ↦ λ is. λ i. sym (ap (λ t. cond t (failed_once at r.message) r.message) is) i ∷ rest i
+      | false ↦ λ is. λ i. sym (ap (λ t. cond t (with_failure at r.message) r.message) is) i ∷ rest i
     ] refl
 
 -- what settles a message does to the messages what it does to the rows
@@ -168,7 +150,7 @@ out-failed id at (r ∷ rows) =
     let back = failed id at rows in
     elim (is_row_of id r) as (λ b. is_row_of id r ≡ b → ids (outs (cons_option (cond b (row_after_failure at r) (Some r)) back)) ≡ without_id id (ids (cond r.out (r ∷ outs rows) (outs rows)))) [
       | true ↦ λ is.
-          elim (r.message.fails == length r.message.backoff) as (λ t. ids (outs (cons_option (cond t None (Some (record { message = failed_once at r.message; out = false }))) back)) ≡ without_id id (out_of rows)) [ true ↦ rest | false ↦ rest ]
+          elim (r.message.fails == length r.message.backoff) as (λ t. ids (outs (cons_option (cond t None (Some (record { message = with_failure at r.message; out = false }))) back)) ≡ without_id id (out_of rows)) [ true ↦ rest | false ↦ rest ]
           ∙ elim r.out as (λ t. without_id id (out_of rows) ≡ without_id id (ids (cond t (r ∷ outs rows) (outs rows)))) [
             | true ↦ λ i. cond (not (sym (same_id-turned r.message.id id ∙ is) i)) (r.message.id ∷ without_id id (out_of rows)) (without_id id (out_of rows))
             | false ↦ refl
@@ -189,13 +171,6 @@ out-after (Some t) at rows =
     ]
 
 -- ---- what is due
-
--- those that wait, from the rows and from the ids that are out
-pub waiting-rows : (s : State) (rows : List Row) → s.messages ≡ messages_of rows → waiting s (out_of rows) ≡ waiting_of rows
-waiting-rows s rows is = λ i. filter (λ m. not (out-taken m.id rows i)) (is i)
-
-pub next-rows : (s : State) (rows : List Row) (at : ℕ) → s.messages ≡ messages_of rows → next s (out_of rows) at ≡ due_at at rows
-next-rows s rows at is = ap (λ ms. first_due (filter (λ m. nat_le m.due at) ms)) (waiting-rows s rows is)
 
 -- ---- messages in the order of their ids
 
@@ -251,96 +226,21 @@ none-last id rows order is =
     find-one id (λ k. k.fails == length k.backoff) (messages_of rows) order
     ∙ ap (if_so (λ k. k.fails == length k.backoff)) (sym (find-message id rows) ∙ sym is)
 
--- what is due first is the message of its id
-one-filtered : (p : Message → Bool) (ms : List Message) (m : Message) → is_in_id_order ms ≡ true → find (λ k. same_id m.id k.id && p k) ms ≡ Some m → find (λ k. same_id m.id k.id) ms ≡ Some m
-one-filtered p ms m order is = by (find (λ k. same_id m.id k.id) ms) (sym (find-one m.id p ms order) ∙ is)
-  where
-    by : (o : Option Message) → if_so p o ≡ Some m → o ≡ Some m
-    by None h = h
-    by (Some k) h = elim (p k) as (λ b. cond b (Some k) None ≡ Some m → Some k ≡ Some m) [ true ↦ λ e. e | false ↦ λ e. absurd (cc e) ] h
-
-find-filter : (id : MsgId) (p : Message → Bool) (ms : List Message) → find (λ k. same_id id k.id) (filter p ms) ≡ find (λ k. same_id id k.id && p k) ms
-find-filter id p [] = refl
-find-filter id p (m ∷ ms) =
-    elim (p m) as (λ b. find (λ k. same_id id k.id) (cond b (m ∷ filter p ms) (filter p ms)) ≡ cond (same_id id m.id && b) (Some m) (find (λ k. same_id id k.id && p k) ms)) [
-      | true ↦ (λ i. cond (sym (and_true (same_id id m.id)) i) (Some m) (find-filter id p ms i))
-      | false ↦ find-filter id p ms ∙ (λ i. cond (sym (and_false (same_id id m.id)) i) (Some m) (find (λ k. same_id id k.id && p k) ms))
-    ]
-  where
-    and_true : (b : Bool) → (b && true) ≡ b
-    and_true true = refl
-    and_true false = refl
-
-    and_false : (b : Bool) → (b && false) ≡ false
-    and_false true = refl
-    and_false false = refl
-
-some_one : (x y : Message) → Some x ≡ Some y → x ≡ y
-some_one x y e = cc e
-
-first_due_found : (ms : List Message) (m : Message) → is_in_id_order ms ≡ true → first_due ms ≡ Some m → find (λ k. same_id m.id k.id) ms ≡ Some m
-first_due_found [] m order e = absurd (cc e)
-first_due_found (x ∷ xs) m order e =
-    let parts = and_parts (list_all (λ k. is_lt (id_cmp x.id k.id)) xs) (is_in_id_order xs) order in
-    elim (first_due xs) as (λ o. first_due xs ≡ o → Some (option_map_or (λ k. cond (is_before k x) k x) o x) ≡ Some m → find (λ k. same_id m.id k.id) (x ∷ xs) ≡ Some m) [
-      | None ↦ λ is same. here parts.0 (some_one x m same)
-      | Some k ↦ λ is same.
-          elim (is_before k x) as (λ b. cond b k x ≡ m → find (λ y. same_id m.id y.id) (x ∷ xs) ≡ Some m) [
-            | true ↦ λ h. there parts.0 (first_due_found xs m parts.1 (is ∙ ap Some h))
-            | false ↦ λ h. here parts.0 h
-          ] (some_one (cond (is_before k x) k x) m same)
-    ] refl e
-  where
-    here : list_all (λ k. is_lt (id_cmp x.id k.id)) xs ≡ true → x ≡ m → find (λ k. same_id m.id k.id) (x ∷ xs) ≡ Some m
-    here above is =
-        (λ i. cond ((ap (λ y. same_id y.id x.id) (sym is) ∙ same_id_self x.id) i) (Some x) (find (λ k. same_id m.id k.id) xs)) ∙ ap Some is
-
-    there : list_all (λ k. is_lt (id_cmp x.id k.id)) xs ≡ true → find (λ k. same_id m.id k.id) xs ≡ Some m → find (λ k. same_id m.id k.id) (x ∷ xs) ≡ Some m
-    there above found =
-        elim (same_id m.id x.id) as (λ b. same_id m.id x.id ≡ b → cond b (Some x) (find (λ k. same_id m.id k.id) xs) ≡ Some m) [
-          | true ↦ λ same. absurd (none_same (same_id-true m.id x.id same) (sym found ∙ none_as (same_id-true m.id x.id same) above))
-          | false ↦ λ other. found
-        ] refl
-      where
-        none_as : m.id ≡ x.id → list_all (λ k. is_lt (id_cmp x.id k.id)) xs ≡ true → find (λ k. same_id m.id k.id) xs ≡ None
-        none_as same above = ap (λ y. find (λ k. same_id y k.id) xs) same ∙ plain_none xs above
-          where
-            plain_none : (ys : List Message) → list_all (λ k. is_lt (id_cmp x.id k.id)) ys ≡ true → find (λ k. same_id x.id k.id) ys ≡ None
-            plain_none [] h = refl
-            plain_none (y ∷ ys) h =
-                let ps = and_parts (is_lt (id_cmp x.id y.id)) _ h in
-                (λ i. cond (lt-other x.id y.id ps.0 i) (Some y) (find (λ k. same_id x.id k.id) ys)) ∙ plain_none ys ps.1
-
-        none_same : m.id ≡ x.id → Some m ≡ None → ⊥
-        none_same same e = absurd (cc e)
-
-pub due-message : (at : ℕ) (rows : List Row) (id : MsgId) (m : Message) → is_in_id_order (messages_of rows) ≡ true → due_at at rows ≡ Some m → m.id ≡ id → message_at id rows ≡ Some m
-due-message at rows id m order due is =
-    let ms = messages_of rows in
-    let waits = waiting_of rows in
-    let soon : List Message = filter (λ k. nat_le k.due at) waits in
-    let w_order : is_in_id_order waits ≡ true = order-filter (λ k. not (is_taken k.id rows)) ms order in
-    let s_order : is_in_id_order soon ≡ true = order-filter (λ k. nat_le k.due at) waits w_order in
-    let in_soon = first_due_found soon m s_order due in
-    let in_waits = one-filtered (λ k. nat_le k.due at) waits m w_order (sym (find-filter m.id (λ k. nat_le k.due at) waits) ∙ in_soon) in
-    let in_all = one-filtered (λ k. not (is_taken k.id rows)) ms m order (sym (find-filter m.id (λ k. not (is_taken k.id rows)) ms) ∙ in_waits) in
-    find-message id rows ∙ ap (λ x. find (λ k. same_id x k.id) ms) (sym is) ∙ in_all
-
 -- ---- what waits is not out
 
-none_taken : (m : Message) (rows : List Row) → list_all (λ k. is_lt (id_cmp m.id k.id)) (messages_of rows) ≡ true → is_taken m.id rows ≡ false
+none_taken : (m : Message) (rows : List Row) → list_all (λ k. is_lt (id_cmp m.id k.id)) (messages_of rows) ≡ true → is_row_out m.id rows ≡ false
 none_taken m [] above = refl
 none_taken m (r ∷ rows) above =
     let parts = and_parts (is_lt (id_cmp m.id r.message.id)) _ above in
-    (λ i. lt-other m.id r.message.id parts.0 i && r.out || is_taken m.id rows) ∙ none_taken m rows parts.1
+    (λ i. lt-other m.id r.message.id parts.0 i && r.out || is_row_out m.id rows) ∙ none_taken m rows parts.1
 
-pub waits_free : (id : MsgId) (rows : List Row) → is_in_id_order (messages_of rows) ≡ true → waits id rows ≡ true → is_taken id rows ≡ false
+pub waits_free : (id : MsgId) (rows : List Row) → is_in_id_order (messages_of rows) ≡ true → waits id rows ≡ true → is_row_out id rows ≡ false
 waits_free id [] order w = refl
 waits_free id (r ∷ rows) order w =
     let parts = and_parts (list_all (λ k. is_lt (id_cmp r.message.id k.id)) (messages_of rows)) _ order in
-    elim (is_row_of id r) as (λ b. is_row_of id r ≡ b → (b && not r.out || waits id rows) ≡ true → (b && r.out || is_taken id rows) ≡ false) [
+    elim (is_row_of id r) as (λ b. is_row_of id r ≡ b → (b && not r.out || waits id rows) ≡ true → (b && r.out || is_row_out id rows) ≡ false) [
       | true ↦ λ is here.
-          let none : is_taken id rows ≡ false = ap (λ x. is_taken x rows) (same_id-true id r.message.id is) ∙ none_taken r.message rows parts.0 in
+          let none : is_row_out id rows ≡ false = ap (λ x. is_row_out x rows) (same_id-true id r.message.id is) ∙ none_taken r.message rows parts.0 in
           let rest : waits id rows ≡ false = no_waits id rows (ap (λ x. x) none) is parts.0 in
           (λ i. r.out || none i) ∙ free r.out (sym (ap (λ b. not r.out || b) rest) ∙ here)
       | false ↦ λ is later. waits_free id rows parts.1 later
@@ -350,12 +250,12 @@ waits_free id (r ∷ rows) order w =
     free true h = absurd (false≢true h)
     free false h = refl
 
-    no_waits : (x : MsgId) (rs : List Row) → is_taken x rs ≡ false → same_id x r.message.id ≡ true → list_all (λ k. is_lt (id_cmp r.message.id k.id)) (messages_of rs) ≡ true → waits x rs ≡ false
+    no_waits : (x : MsgId) (rs : List Row) → is_row_out x rs ≡ false → same_id x r.message.id ≡ true → list_all (λ k. is_lt (id_cmp r.message.id k.id)) (messages_of rs) ≡ true → waits x rs ≡ false
     no_waits x [] h same above = refl
     no_waits x (s ∷ rs) h same above =
         let ps = and_parts (is_lt (id_cmp r.message.id s.message.id)) _ above in
         let off : is_row_of x s ≡ false = ap (λ y. same_id y s.message.id) (same_id-true x r.message.id same) ∙ lt-other r.message.id s.message.id ps.0 in
-        (λ i. off i && not s.out || waits x rs) ∙ no_waits x rs ((λ i. sym off i && s.out || is_taken x rs) ∙ h) same ps.1
+        (λ i. off i && not s.out || waits x rs) ∙ no_waits x rs ((λ i. sym off i && s.out || is_row_out x rs) ∙ h) same ps.1
 
 pub waits_there : (id : MsgId) (rows : List Row) → waits id rows ≡ true → list_any (λ m. same_id id m.id) (messages_of rows) ≡ true
 waits_there id [] w = w
@@ -366,6 +266,6 @@ waits_there id (r ∷ rows) w = by (is_row_of id r) r.out (waits id rows) (waits
     by false b t rest h = rest h
 
 -- what a settlement may be of, from the rows and from the ids that are out
-pub may_settle : (t : Option Settled) (rows : List Row) → option_map_or (λ s. is_out s.id (out_of rows)) t true ≡ option_map_or (λ s. is_taken s.id rows) t true
+pub may_settle : (t : Option Settled) (rows : List Row) → option_map_or (λ s. is_out s.id (out_of rows)) t true ≡ option_map_or (λ s. is_row_out s.id rows) t true
 may_settle None rows = refl
-may_settle (Some t) rows = out-taken t.id rows
+may_settle (Some t) rows = out-rows t.id rows

@@ -4,8 +4,8 @@ use mathlib.Core.List.{reverse_aux}
 use Rattle.dkv_base.specs.declared.types.Entry.{Entry}
 use Rattle.dkv_base.specs.declared.types.ReadRange.{ReadRange}
 use Rattle.dkv_base.specs.Limits.{from_zero}
-use Rattle.dkv_base.specs.Replies.{read_range, turned, is_in_range}
-use Rattle.dkv_base.specs.State.{visible, is_visible}
+use Rattle.dkv_base.specs.Replies.{read_range, turned}
+use Rattle.dkv_base.specs.State.{is_between, visible, is_visible}
 use Rattle.dkv_table.specs.Walks.{walked}
 
 filters_turn : (p q : Entry → Bool) (es : List Entry) → filter p (filter q es) ≡ filter q (filter p es)
@@ -38,4 +38,4 @@ filter-turned p false es = refl
 
 pub seen_of_walk : (at : ℕ) (r : ReadRange) (es : List Entry) → take (from_zero r.limit) (visible at (walked r.start r.end r.reverse es)) ≡ read_range (visible at es) r
 seen_of_walk at r es =
-    ap (λ fs. take (from_zero r.limit) fs) (filter-turned (is_visible at) r.reverse (filter (is_in_range r) es) ∙ ap (λ fs. turned r.reverse fs) (filters_turn (is_visible at) (is_in_range r) es))
+    ap (λ fs. take (from_zero r.limit) fs) (filter-turned (is_visible at) r.reverse (filter (λ e. is_between r.start r.end e.key) es) ∙ ap (λ fs. turned r.reverse fs) (filters_turn (is_visible at) (λ e. is_between r.start r.end e.key) es))

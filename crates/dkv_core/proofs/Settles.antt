@@ -10,18 +10,18 @@ use Rattle.dkv_base.specs.declared.types.Commit.TheVariants.{Acked, Failed}
 use Rattle.dkv_base.specs.declared.types.Entry.{Entry}
 use Rattle.dkv_base.specs.declared.types.Message.{Message}
 use Rattle.dkv_base.specs.declared.types.MsgId.{MsgId}
-use Rattle.dkv_base.specs.Messages.{exhausted}
-use Rattle.dkv_base.specs.State.{State, put, visible, max_moment}
+use Rattle.dkv_base.specs.Messages.{exhausted, is_out}
+use Rattle.dkv_base.specs.State.{State, put, visible}
+use Rattle.dkv_base.specs.declared.moments.TheConstants.{MAX_MOMENT}
 use Rattle.dkv_base.specs.After.{is_pending_id, payload_entry, undelivered}
-use Rattle.dkv_base.specs.Trails.{is_out}
-use Rattle.dkv_base.proofs.Told.{FailsFit}
-use Rattle.dkv_core.specs.Cores.{Whole, IsEffective, put_all, ends}
+use Rattle.dkv_base.proofs.AfterNothing.{FailsFit}
+use Rattle.dkv_core.specs.Cores.{Database, IsEffective, put_all, ends}
 use Rattle.dkv_core.specs.Settling.{payloads}
 use Rattle.dkv_core.specs.Decisions.{Goes}
 use Rattle.dkv_core.proofs.OneCommit.{pending-acked, pending-failed, entries-one}
 
-in_time : (s : State) (at : ℕ) → s.moment ≤ at → at ≤ max_moment → (nat_le s.moment at && nat_le at max_moment) ≡ true
-in_time s at late latest = and_from (nat_le s.moment at) _ (le-leb s.moment at late) (le-leb at max_moment latest)
+in_time : (s : State) (at : ℕ) → s.moment ≤ at → at ≤ MAX_MOMENT → (nat_le s.moment at && nat_le at MAX_MOMENT) ≡ true
+in_time s at late latest = and_from (nat_le s.moment at) _ (le-leb s.moment at late) (le-leb at MAX_MOMENT latest)
 
 -- an undelivered payload is put under its keys in order
 undelivered-puts : (m : Message) (n : ℕ) (keys : List (List ℕ)) (es : List Entry) → put_all (map (payload_entry m n) keys) es ≡ fold (λ left key. put (payload_entry m n key) left) es keys
@@ -41,8 +41,8 @@ no_endings : (n : ℕ) (o : Option Message) → count_by ends (payloads n o) ≡
 no_endings n None = refl
 no_endings n (Some m) = none_end m n m.undelivered
 
-module _ (c : Whole) (who at n : ℕ) (id : MsgId) (fit : FailsFit c.state.messages) (next : n ≡ c.state.number + 1) (late : c.state.moment ≤ c.greatest) (effective : IsEffective c at) (out : is_out id c.out ≡ true) (pending_id : is_pending_id c.state id ≡ true) where
-  legal : (made : Commit) → (nat_le c.state.moment at && nat_le at max_moment) ≡ true
+module _ (c : Database) (who at n : ℕ) (id : MsgId) (fit : FailsFit c.state.messages) (next : n ≡ c.state.number + 1) (late : c.state.moment ≤ c.greatest) (effective : IsEffective c at) (out : is_out id c.out ≡ true) (pending_id : is_pending_id c.state id ≡ true) where
+  legal : (made : Commit) → (nat_le c.state.moment at && nat_le at MAX_MOMENT) ≡ true
   legal made = in_time c.state at (omega (arith, late, effective.late)) effective.within
 
   pub ack_goes : Goes c who at (Ack id) (record { number = n; moment = at; puts = []; removed = []; added = []; settled = Some (record { id = id; done = true }) })

@@ -1,5 +1,5 @@
 -- What contracts see of a core and of a prepared commit.
---     Whole, Change      what they see of the one and of the other
+--     Database, Change      what they see of the one and of the other
 --     SameContent c d      whether two cores have one state, one greatest moment and the same messages out
 --     IsEffective c at      whether a call may have this moment
 --     applied p s      the state after the prepared commit
@@ -11,8 +11,9 @@ use Rattle.dkv_base.specs.declared.types.Entry.{Entry}
 use Rattle.dkv_base.specs.declared.types.Message.{Message}
 use Rattle.dkv_base.specs.declared.types.MsgId.{MsgId}
 use Rattle.dkv_base.specs.Sound.{is_schedule}
-use Rattle.dkv_base.specs.State.{State, put, without, visible, is_in_id_order, max_moment}
-use Rattle.dkv_base.specs.Trails.{is_out}
+use Rattle.dkv_base.specs.State.{State, put, without, visible, is_in_id_order}
+use Rattle.dkv_base.specs.declared.moments.TheConstants.{MAX_MOMENT}
+use Rattle.dkv_base.specs.Messages.{is_out}
 use Rattle.dkv_core.specs.Settling.{after_settlement}
 use Rattle.dkv_core.specs.declared.prepared.Settled.{Settled}
 
@@ -23,7 +24,7 @@ pub record Room : Type 0 where
   pub messages : ℕ
 
 -- the state, the messages that are out, the greatest moment so far, and the room
-pub record Whole : Type 0 where
+pub record Database : Type 0 where
   pub state : State
   pub out : List MsgId
   pub greatest : ℕ
@@ -39,7 +40,7 @@ pub record Change : Type 0 where
   pub settled : Option Settled
 
 -- the two differ in nothing but their room
-pub record SameContent (c d : Whole) : Type 0 where
+pub record SameContent (c d : Database) : Type 0 where
   pub state : d.state ≡ c.state
   pub out : d.out ≡ c.out
   pub greatest : d.greatest ≡ c.greatest
@@ -51,9 +52,9 @@ pub record IsNoLess (r s : Room) : Type 0 where
   pub messages : r.messages ≤ s.messages
 
 -- no earlier than the greatest moment so far, and no later than the last that there is
-pub record IsEffective (c : Whole) (at : ℕ) : Type 0 where
+pub record IsEffective (c : Database) (at : ℕ) : Type 0 where
   pub late : c.greatest ≤ at
-  pub within : at ≤ max_moment
+  pub within : at ≤ MAX_MOMENT
 
 -- the entries without these keys
 abbrev pub without_all : List (List ℕ) → List Entry → List Entry
@@ -85,7 +86,7 @@ abbrev pub is_made_by : ℕ → Message → Bool
 is_made_by n m = (m.id.commit == n) && is_schedule m.backoff && nat_le m.fails (length m.backoff)
 
 -- it is the next commit, its moment is effective, there is room for it, its messages are its own in order, and what it settles is out
-pub record IsReady (c : Whole) (p : Change) : Type 0 where
+pub record IsReady (c : Database) (p : Change) : Type 0 where
   pub number : p.number ≡ c.state.number + 1
   pub moment : IsEffective c p.moment
   pub entries : length p.puts ≤ c.room.entries

@@ -13,13 +13,13 @@ use Rattle.dkv_base.specs.declared.types.Commit.TheVariants as commit
 use Rattle.dkv_base.specs.declared.types.MsgId.{MsgId}
 use Rattle.dkv_base.specs.Limits.{write_limit}
 use Rattle.dkv_base.specs.State.{seen}
-use Rattle.dkv_base.specs.Trails.{is_out}
+use Rattle.dkv_base.specs.Messages.{is_out}
 use Rattle.dkv_base.specs.Writes.{failing, mutated_all}
 use Rattle.dkv_base.specs.After.{after, is_legal_in}
 use Rattle.dkv_core.specs.declared.prepared.Decided.{Decided}
 use Rattle.dkv_core.specs.declared.prepared.Decided.TheVariants as decided
 use Rattle.dkv_core.specs.declared.prepared.Settled.{Settled}
-use Rattle.dkv_core.specs.Cores.{Whole, Change, applied, IsReady}
+use Rattle.dkv_core.specs.Cores.{Database, Change, applied, IsReady}
 
 -- the commit of the caller at the moment
 abbrev pub commit_of : ℕ → ℕ → Call → Commit
@@ -38,7 +38,7 @@ abbrev pub settling : Bool → MsgId → Call
 settling done id = if done then call.Ack id else call.Fail id
 
 -- a settlement is of a message that is out
-abbrev pub may_ask : Whole → Call → Bool
+abbrev pub may_ask : Database → Call → Bool
 may_ask c (call.Write w) = true
 may_ask c (call.Ack id) = is_out id c.out
 may_ask c (call.Fail id) = is_out id c.out
@@ -56,7 +56,7 @@ OfWrite (call.Ack id) P = ⊥
 OfWrite (call.Fail id) P = ⊥
 
 -- the commit may be made in the state, the change makes the state after it, and it is ready
-pub record Goes (c : Whole) (who at : ℕ) (a : Call) (p : Change) : Type 0 where
+pub record Goes (c : Database) (who at : ℕ) (a : Call) (p : Change) : Type 0 where
   pub legal : IsTrue (is_legal_in c.state (commit_of who at a))
   pub makes : applied p c.state ≡ after c.state (commit_of who at a ∷ [])
   pub settles : p.settled ≡ settled_by a
@@ -64,7 +64,7 @@ pub record Goes (c : Whole) (who at : ℕ) (a : Call) (p : Change) : Type 0 wher
   pub ready : IsReady c p
 
 -- the first that applies to a write: a limit, failing checks, a value that is no LE64; else, and for any settlement, what the call does
-abbrev pub IsDecided : Whole → ℕ → ℕ → Call → Decided → Type 0
+abbrev pub IsDecided : Database → ℕ → ℕ → Call → Decided → Type 0
 IsDecided c who at a (decided.Limit passed) = OfWrite a (λ w. write_limit w ≡ Some passed)
 IsDecided c who at a (decided.Fails places) = OfWrite a (λ w. (write_limit w ≡ None) × (failing w (seen c.state at) ≡ places) × (places ≢ []))
 IsDecided c who at a (decided.NotU64 index) =

@@ -1,21 +1,15 @@
 -- What a core sees of its queue.
---     out_of rows      the ids of the messages that are out, in their order
 --     is_above ms m      whether the message's id is above those of all these
 --     settled_rows t at rows      the rows after what settles a message, if something does
-use Rattle.std.specs.Prelude.{ℕ, Bool, List, map, filter, Option, if◌then◌else◌}
+use Rattle.std.specs.Prelude.{ℕ, Bool, List, Option, if◌then◌else◌}
 use Rattle.std.specs.List.{list_all}
 use Rattle.std.specs.Option.{option_map_or}
 use Rattle.std.specs.Ordering.{is_lt}
 use Rattle.dkv_base.specs.declared.types.Message.{Message}
-use Rattle.dkv_base.specs.declared.types.MsgId.{MsgId}
 use Rattle.dkv_base.specs.State.{id_cmp}
 use Rattle.dkv_queue.specs.declared.row.Row.{Row}
 use Rattle.dkv_queue.specs.Rows.{settled, failed}
 use Rattle.dkv_core.specs.declared.prepared.Settled.{Settled}
-
--- the ids of the messages that are out
-abbrev pub out_of : List Row → List MsgId
-out_of rows = map (λ r. r.message.id) (filter (λ r. r.out) rows)
 
 -- the message's id is above those of all these messages
 abbrev pub is_above : List Message → Message → Bool

@@ -4,17 +4,18 @@
 --     StandsFor s c      whether a situation is the core's, whatever its trail
 --     IsAnswered c who t a r d      whether at the core c the ask has the answer r at the moment t, and leads to the core d
 --     IsStep c p a d      whether the step has this answer at the core c, and leads to the core d
---     IsCutShort c steps d      whether d is what some first steps lead to, where the next found no memory
-use Rattle.std.specs.Prelude.{ℕ, ◌≡◌, ◌-◌, ◌^◌, ◌≤◌, Bool, true, false, List, [], ◌∷◌, take, drop, None}
+--     IsCutShort c steps d      whether some first steps lead to d
+use Rattle.std.specs.Prelude.{ℕ, ◌≡◌, ◌-◌, ◌^◌, Bool, true, false, List, [], take, None}
 use Rattle.dkv_base.specs.declared.types.Answer.{Answer}
 use Rattle.dkv_base.specs.declared.types.Ask.{Ask}
 use Rattle.dkv_base.specs.declared.types.Ask.TheVariants as ask
 use Rattle.dkv_base.specs.declared.types.MsgId.{MsgId}
 use Rattle.dkv_base.specs.declared.types.Step.{Step}
-use Rattle.dkv_base.specs.Trails.{first_stop, is_out}
+use Rattle.dkv_base.specs.Trails.{first_stop}
+use Rattle.dkv_base.specs.Messages.{is_out}
 use Rattle.dkv_base.specs.Replies.{said}
-use Rattle.dkv_base.specs.Steps.{Situation, reply_to, answered, step, situation_after, effective}
-use Rattle.dkv_core.specs.Cores.{Whole}
+use Rattle.dkv_base.specs.Steps.{Situation, reply_to, answered, step, situation_after}
+use Rattle.dkv_core.specs.Cores.{Database}
 
 -- no watch, and no frame of one
 abbrev pub is_watchless : Ask → Bool
@@ -34,10 +35,10 @@ abbrev pub no_limit : ℕ
 no_limit = 2 ^ 64 - 1
 
 -- the core's state, its greatest moment and what is out there, with no watchers and an empty trail
-abbrev pub situation_of : Whole → Situation
+abbrev pub situation_of : Database → Situation
 situation_of c = record {
   state = c.state;
-  leased = c.out;
+  out = c.out;
   greatest = c.greatest;
   watchers = [];
   trail = [];
@@ -45,33 +46,21 @@ situation_of c = record {
 }
 
 -- the core's state and greatest moment, the same messages out, and a trail that stops nothing
-pub record StandsFor (s : Situation) (c : Whole) : Type 0 where
+pub record StandsFor (s : Situation) (c : Database) : Type 0 where
   pub state : s.state ≡ c.state
-  pub leased : (id : MsgId) → is_out id s.leased ≡ is_out id c.out
+  pub out : (id : MsgId) → is_out id s.out ≡ is_out id c.out
   pub greatest : s.greatest ≡ c.greatest
   pub unstopped : first_stop s.trail ≡ None
   pub unlimited : s.limit ≡ no_limit
 
 -- in each situation of the one core the ask has this answer at the moment, and leads to a situation of the other
-abbrev pub IsAnswered : Whole → ℕ → ℕ → Ask → Answer → Whole → Type 0
+abbrev pub IsAnswered : Database → ℕ → ℕ → Ask → Answer → Database → Type 0
 IsAnswered c who t a r d = (s : Situation) → StandsFor s c → (reply_to s who t a ≡ said r) × StandsFor (answered who t a (said r) s) d
 
 -- in each situation of the one core the step has this answer and leads to a situation of the other
-abbrev pub IsStep : Whole → Step → Answer → Whole → Type 0
+abbrev pub IsStep : Database → Step → Answer → Database → Type 0
 IsStep c p a d = (s : Situation) → StandsFor s c → ((step s p false).0 ≡ said a) × StandsFor (step s p false).1 d
 
--- what the moment of the next step would be, if one is left
-abbrev pub moment_before : Situation → List Step → ℕ
-moment_before s [] = s.greatest
-moment_before s (p ∷ ps) = effective s p.at
-
--- the state after the first n steps and what is out then; the greatest moment may have risen to that of the next step
-pub record IsAfterFirst (c : Whole) (steps : List Step) (n : ℕ) (d : Whole) : Type 0 where
-  pub state : (situation_after (situation_of c) (take n steps) []).state ≡ d.state
-  pub leased : (id : MsgId) → is_out id (situation_after (situation_of c) (take n steps) []).leased ≡ is_out id d.out
-  pub least : (situation_after (situation_of c) (take n steps) []).greatest ≤ d.greatest
-  pub most : d.greatest ≤ moment_before (situation_after (situation_of c) (take n steps) []) (drop n steps)
-
 -- so it is after some first steps
-abbrev pub IsCutShort : Whole → List Step → Whole → Type 0
-IsCutShort c steps d = (n : ℕ) × IsAfterFirst c steps n d
+abbrev pub IsCutShort : Database → List Step → Database → Type 0
+IsCutShort c steps d = (n : ℕ) × StandsFor (situation_after (situation_of c) (take n steps) []) d

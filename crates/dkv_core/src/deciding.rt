@@ -2,8 +2,7 @@
 ghost use Rattle.std.specs.Prelude.{ℕ, ◌≡◌, ◌+◌, ◌-◌, ◌^◌, ◌<◌, IsTrue, IfOk, IsOk, None};
 ghost use Rattle.dkv_base.specs.declared.types.Call.TheVariants.{Write, Ack, Fail};
 ghost use Rattle.dkv_base.specs.Limits.{write_limit};
-ghost use Rattle.dkv_base.specs.Messages.{exhausted};
-ghost use Rattle.dkv_base.specs.Trails.{is_out};
+ghost use Rattle.dkv_base.specs.Messages.{exhausted, is_out};
 ghost use Rattle.dkv_atomic.specs.Decisions.{IsEffects};
 ghost use Rattle.dkv_core.specs.Cores.{IsEffective, IsNoLess, SameContent};
 ghost use Rattle.dkv_core.specs.Decisions.{Goes, IsDecided, may_ask, is_ack, settling};
@@ -52,7 +51,8 @@ impl Core {
     ) -> Result<Decided, NoMemory>
         requires effective { IsEffective self.old at }
         requires numbered { self.old.state.number < 2 ^ 64 - 1 }
-        ensures decided { IfOk result (λ d. (who : ℕ) → IsDecided self.new who at (Write write.now) d) }
+        ensures decided { IfOk result (λ d.
+            (who : ℕ) → IsDecided self.new who at (Write write.now) d) }
         ensures kept { SameContent self.old self.new }
         ensures room { IsNoLess self.old.room self.new.room }
     {
@@ -72,7 +72,8 @@ impl Core {
         requires effective { IsEffective self.old at }
         requires numbered { self.old.state.number < 2 ^ 64 - 1 }
         requires free { write_limit write.now ≡ None }
-        ensures decided { IfOk result (λ d. (who : ℕ) → IsDecided self.new who at (Write write.now) d) }
+        ensures decided { IfOk result (λ d.
+            (who : ℕ) → IsDecided self.new who at (Write write.now) d) }
         ensures kept { SameContent self.old self.new }
         ensures room { IsNoLess self.old.room self.new.room }
     {
@@ -98,7 +99,8 @@ impl Core {
         requires effective { IsEffective self.old at }
         requires numbered { self.old.state.number < 2 ^ 64 - 1 }
         requires free { write_limit write.now ≡ None }
-        requires does { IsEffects self.old.state.entries write.now at (self.old.state.number + 1) effects }
+        requires does { IsEffects self.old.state.entries write.now at
+            (self.old.state.number + 1) effects }
         ensures goes { IfOk result (λ p. (who : ℕ) → Goes self.new who at (Write write.now) p) }
         ensures kept { SameContent self.old self.new }
         ensures room { IsNoLess self.old.room self.new.room }
@@ -182,7 +184,8 @@ impl Core {
 
     // What commit `n` stores of a message of which one more failure is the last; nothing of another.
     fn last_payloads(&self, alloc: Global, n: u64, id: MsgId) -> Result<Run<Entry>, NoMemory>
-        ensures { IfOk result (λ entries. entries ≡ payloads n (exhausted id self.now.state.messages)) }
+        ensures { IfOk result (λ entries.
+            entries ≡ payloads n (exhausted id self.now.state.messages)) }
     {
         match self.queue.get(id) {
             Some(message) => {

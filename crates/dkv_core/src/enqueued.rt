@@ -2,25 +2,24 @@
 ghost use Rattle.std.specs.Prelude.{ℕ, ◌≡◌, ◌+◌, ◌≤◌, [], ◌∷◌, ◌++◌, length, map, true, IfOk, IsTrue, Some};
 ghost use Rattle.std.specs.List.{list_all};
 ghost use Rattle.std.specs.Option.{option_map_or};
-ghost use Rattle.dkv_base.specs.Limits.{from_zero};
 ghost use Rattle.dkv_base.specs.After.{payload_entry};
 ghost use Rattle.dkv_base.specs.Messages.{made, made_from, schedule_of};
-ghost use Rattle.dkv_base.specs.State.{is_in_id_order, max_moment};
-ghost use Rattle.dkv_queue.specs.Rows.{messages_of, has_schedule, is_taken};
+ghost use Rattle.dkv_base.specs.State.{is_in_id_order};
+ghost use Rattle.dkv_base.specs.declared.moments.TheConstants.{MAX_MOMENT};
+ghost use Rattle.dkv_queue.specs.Rows.{messages_of, has_schedule, is_row_out, out_of};
 ghost use Rattle.dkv_core.specs.Settling.{payloads};
-ghost use Rattle.dkv_core.specs.Rows.{out_of, is_above, settled_rows};
+ghost use Rattle.dkv_core.specs.Rows.{is_above, settled_rows};
 
 use crate::prepared::Settled;
-use crate::reading::push;
-use dkv_base::{Bytes, Enqueue, Entry, Message, MsgId, NoMemory, Run, TryCopy};
+use dkv_base::limits::MAX_CHANGES;
+use dkv_base::{
+    Bytes, Enqueue, Entry, Message, MsgId, NoMemory, Run, TryCopy, encodings, from_zero,
+};
 use dkv_queue::Queue;
 use std::alloc::Global;
 
 // The intervals of an enqueue that gives none, in milliseconds.
 const DEFAULT_BACKOFF: [u32; 5] = [100, 1000, 5000, 30000, 60000];
-
-// V8, the encoding of an undelivered payload.
-const V8: i32 = 1;
 
 // The intervals that an enqueue gives, or the default ones.
 fn schedule(alloc: Global, backoff: &Run<u32>) -> Result<Run<u32>, NoMemory>
@@ -29,21 +28,7 @@ fn schedule(alloc: Global, backoff: &Run<u32>) -> Result<Run<u32>, NoMemory>
     if !backoff.is_empty() {
         return backoff.copy(alloc);
     }
-    match Vec::from_slice(alloc, &DEFAULT_BACKOFF) {
-        Ok(items) => Ok(Run::of(items)),
-        Err(_) => Err(NoMemory),
-    }
-}
-
-// When an enqueue is due at first.
-fn due_of(enqueue: &Enqueue) -> u64
-    ensures { result ≡ from_zero enqueue.now.deadline_ms }
-{
-    if enqueue.deadline_ms > 0 {
-        enqueue.deadline_ms as u64
-    } else {
-        0
-    }
+    Ok(Run::of(Vec::from_slice(alloc, &DEFAULT_BACKOFF)?))
 }
 
 // The message of enqueue `index` of commit `n`.
@@ -53,7 +38,7 @@ fn message_of(alloc: Global, n: u64, index: u32, enqueue: &Enqueue) -> Result<Me
     Ok(Message {
         id: MsgId { commit: n, index },
         payload: enqueue.payload.copy(alloc)?,
-        due: due_of(enqueue),
+        due: from_zero(enqueue.deadline_ms),
         fails: 0,
         undelivered: enqueue.undelivered.copy(alloc)?,
         backoff: schedule(alloc, &enqueue.backoff)?,
@@ -66,13 +51,13 @@ pub(crate) fn messages_made(
     n: u64,
     enqueues: &[Enqueue],
 ) -> Result<Run<Message>, NoMemory>
-    requires { length enqueues.now ≤ 1000 }
+    requires { length enqueues.now ≤ MAX_CHANGES }
     ensures { IfOk result (λ messages. messages ≡ made_from n 0 enqueues.now) }
 {
     let mut messages = Run::new(alloc);
     let mut index = 0u32;
     for enqueue in enqueues {
-        push(&mut messages, message_of(alloc, n, index, enqueue)?)?;
+        messages.add(message_of(alloc, n, index, enqueue)?)?;
         index += 1;
     }
     Ok(messages)
@@ -85,7 +70,7 @@ fn payload_under(alloc: Global, message: &Message, n: u64, key: &Bytes) -> Resul
     Ok(Entry {
         key: key.copy(alloc)?,
         bytes: message.payload.copy(alloc)?,
-        encoding: V8,
+        encoding: encodings::V8,
         commit: n,
         expire: 0,
     })
@@ -102,15 +87,15 @@ pub(crate) fn payload_entries(
     let keys = message.undelivered.as_slice();
     let mut entries = Run::new(alloc);
     for key in keys {
-        push(&mut entries, payload_under(alloc, message, n, key)?)?;
+        entries.add(payload_under(alloc, message, n, key)?)?;
     }
     Ok(entries)
 }
 
 /// Settles a message that is out, if one is to be. The moment is in milliseconds since 1970. Takes no memory.
 pub(crate) fn settle(queue: &mut Queue, settled: Option<Settled>, at: u64)
-    requires out { IsTrue (option_map_or (λ t. is_taken t.id queue.old.rows) settled true) }
-    requires within { at ≤ max_moment }
+    requires out { IsTrue (option_map_or (λ t. is_row_out t.id queue.old.rows) settled true) }
+    requires within { at ≤ MAX_MOMENT }
     ensures rows { queue.new.rows ≡ settled_rows settled at queue.old.rows }
     ensures kept { queue.old.spare ≤ queue.new.spare }
 {

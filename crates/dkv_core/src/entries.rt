@@ -5,10 +5,9 @@ ghost use Rattle.dkv_core.specs.Cores.{ends, put_all, without_all};
 ghost use Rattle.dkv_core.specs.Entries.{forgot};
 
 use crate::put::{Put, count_endings, puts_of};
-use crate::reading::copies;
 use dkv_base::{Bytes, Entry, NoMemory, Run};
 use dkv_expiry::Expiry;
-use dkv_table::{Plain, Table};
+use dkv_table::{Plain, Table, copies};
 use std::alloc::Global;
 use std::marker::Model;
 

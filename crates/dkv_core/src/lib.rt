@@ -20,6 +20,3 @@ pub use machine::Core;
 pub use prepared::{Decided, Prepared};
 pub use takes::{NextDue, Taken};
 pub use watchless::are_watchless;
-
-#[cfg(test)]
-mod tests;

@@ -1,17 +1,19 @@
+// A core: what it is made of, and what it tells.
 ghost use Rattle.std.specs.Prelude.{◌≡◌, ◌^◌, ◌<◌, max, [], IfOk, Ok, None};
-ghost use Rattle.dkv_base.specs.State.{empty_state, taken_moment};
+ghost use Rattle.dkv_base.specs.State.{empty_state};
+ghost use Rattle.dkv_base.specs.Moments.{capped_moment};
 ghost use Rattle.dkv_base.specs.Sound.{IsSound};
 ghost use Rattle.dkv_base.specs.Limits.{read_limit};
 ghost use Rattle.dkv_base.specs.Replies.{read_reply};
-ghost use Rattle.dkv_base.specs.Trails.{is_out};
-ghost use Rattle.dkv_queue.specs.Rows.{messages_of};
+ghost use Rattle.dkv_base.specs.Messages.{is_out};
+ghost use Rattle.dkv_queue.specs.Rows.{messages_of, out_of};
 ghost use Rattle.dkv_core.specs.Cores.{IsEffective, SameContent};
-ghost use Rattle.dkv_core.specs.Rows.{out_of};
+ghost use Rattle.dkv_core.specs.Decisions.{may_ask};
 
 use crate::enqueued::queue_of;
 use crate::entries::Entries;
 use crate::reading::read_all;
-use dkv_base::{Entry, MAX_MOMENT, Message, MsgId, NoMemory, ReadRange, Run};
+use dkv_base::{Call, Entry, MAX_MOMENT, Message, MsgId, NoMemory, ReadRange, Run};
 use dkv_queue::Queue;
 use dkv_table::{Plain, Table};
 use std::alloc::Global;
@@ -31,22 +33,28 @@ pub struct Core {
 impl Model for Core {
     ghost use Rattle.std.specs.Prelude.{◌≤◌, IsTrue};
     ghost use Rattle.std.specs.List.{list_all};
-    ghost use Rattle.dkv_base.specs.State.{max_moment};
-    ghost use Rattle.dkv_queue.specs.Rows.{messages_of};
-    ghost use Rattle.dkv_core.specs.Rows.{out_of};
-    ghost use Rattle.dkv_core.specs.Cores.{Whole, is_kept};
+    ghost use Rattle.dkv_queue.specs.Rows.{messages_of, out_of};
+    ghost use Rattle.dkv_core.specs.Cores.{Database, is_kept};
+    ghost use Rattle.dkv_base.specs.declared.moments.TheConstants.{MAX_MOMENT};
 
-    ghost Value = { Whole };
+    ghost Value = { Database };
 
     ghost view = { λ c. record {
-      state = record { number = c.number; moment = c.last; entries = c.entries.entries; messages = messages_of c.queue.rows };
+      state = record {
+        number = c.number;
+        moment = c.last;
+        entries = c.entries.entries;
+        messages = messages_of c.queue.rows;
+      };
       out = out_of c.queue.rows;
       greatest = c.greatest;
       room = record { entries = c.entries.spare; endings = c.entries.endings; messages = c.queue.spare };
     } };
 
     // No message is of a later commit, and none has failed too often.
-    ghost invariant = { λ c. (c.last ≤ c.greatest) × (c.greatest ≤ max_moment) × IsTrue (list_all (is_kept c.number) (messages_of c.queue.rows)) };
+    ghost invariant = { λ c.
+        (c.last ≤ c.greatest) × (c.greatest ≤ MAX_MOMENT)
+        × IsTrue (list_all (is_kept c.number) (messages_of c.queue.rows)) };
 }
 
 impl Core {
@@ -78,8 +86,18 @@ impl Core {
         messages: Run<Message>,
     ) -> Result<Core, NoMemory>
         requires few { number < 2 ^ 63 }
-        requires sound { IsSound (record { number = number; moment = now; entries = entries; messages = messages }) }
-        ensures state { IfOk result (λ c. c.state ≡ record { number = number; moment = now; entries = entries; messages = messages }) }
+        requires sound { IsSound (record {
+          number = number;
+          moment = now;
+          entries = entries;
+          messages = messages;
+        }) }
+        ensures state { IfOk result (λ c. c.state ≡ record {
+          number = number;
+          moment = now;
+          entries = entries;
+          messages = messages;
+        }) }
         ensures out { IfOk result (λ c. c.out ≡ []) }
         ensures moment { IfOk result (λ c. c.greatest ≡ now) }
     {
@@ -141,9 +159,20 @@ impl Core {
         self.queue.is_out(id)
     }
 
+    /// Whether the call may be made: a settlement only of a message that is out. Takes no memory.
+    pub fn may_ask(&self, call: &Call) -> bool
+        ensures { result ≡ may_ask self.now call.now }
+    {
+        match call {
+            Call::Write(_) => true,
+            Call::Ack(id) => self.is_out(*id),
+            Call::Fail(id) => self.is_out(*id),
+        }
+    }
+
     /// The effective moment of a call, in milliseconds since 1970. Takes no memory.
     pub fn moment(&self, at: u64) -> u64
-        ensures value { result ≡ max (taken_moment at) self.now.greatest }
+        ensures value { result ≡ max (capped_moment at) self.now.greatest }
         ensures effective { IsEffective self.now result }
     {
         at.min(MAX_MOMENT).max(self.greatest)

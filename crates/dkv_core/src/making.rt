@@ -19,7 +19,8 @@ impl Core {
         ensures out { self.new.out ≡ out_after prepared.settled self.old.out }
         ensures moment { self.new.greatest ≡ prepared.moment }
         ensures entries { self.old.room.entries ≤ self.new.room.entries + length prepared.puts }
-        ensures endings { self.old.room.endings ≤ self.new.room.endings + count_by ends prepared.puts }
+        ensures endings { self.old.room.endings
+            ≤ self.new.room.endings + count_by ends prepared.puts }
         ensures messages { self.old.room.messages ≤ self.new.room.messages + length prepared.added }
     {
         let Prepared {

@@ -1,3 +1,4 @@
+// A commit that was decided and is not made yet.
 use crate::put::Put;
 use dkv_base::{Bytes, Limit, Message, MsgId, Run};
 use std::marker::Model;

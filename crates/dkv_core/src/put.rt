@@ -2,7 +2,6 @@
 ghost use Rattle.std.specs.Prelude.{◌≡◌, IfOk, count_by};
 ghost use Rattle.dkv_core.specs.Cores.{ends};
 
-use crate::reading::push;
 use dkv_base::{Bytes, Entry, NoMemory, Run, TryCopy};
 use std::alloc::Global;
 use std::marker::Model;
@@ -47,7 +46,7 @@ pub(crate) fn puts_of(alloc: Global, entries: Run<Entry>) -> Result<Run<Put>, No
 {
     let mut puts = Run::new(alloc);
     for entry in entries.into_vec() {
-        push(&mut puts, Put::of(alloc, entry)?)?;
+        puts.add(Put::of(alloc, entry)?)?;
     }
     Ok(puts)
 }

@@ -1,33 +1,19 @@
 // Ranges of a table.
-ghost use Rattle.std.specs.Prelude.{◌≡◌, ◌∷◌, [], ◌++◌, map, filter, take, IfOk, OnOk, length, ◌≤◌};
+ghost use Rattle.std.specs.Prelude.{◌≡◌, map, take, IfOk};
 ghost use Rattle.dkv_base.specs.Limits.{from_zero};
 ghost use Rattle.dkv_base.specs.Replies.{read_range};
 ghost use Rattle.dkv_base.specs.State.{visible};
 
-use dkv_atomic::is_seen;
-use dkv_base::{Entry, NoMemory, ReadRange, Run, TryCopy};
+use dkv_atomic::is_visible;
+use dkv_base::{Entry, NoMemory, ReadRange, Run, TryCopy, from_zero};
 use dkv_table::{Cursor, Table};
 use std::alloc::Global;
-
-// Adds the item last.
-pub(crate) fn push<T: Drop>(items: &mut Run<T>, item: T) -> Result<(), NoMemory>
-    ensures { OnOk result (items.new ≡ items.old ++ item ∷ []) }
-{
-    match items.push(item) {
-        Ok(()) => Ok(()),
-        Err(_) => Err(NoMemory),
-    }
-}
 
 // How many entries the range may be answered.
 fn most_of(range: &ReadRange) -> usize
     ensures { result ≡ from_zero range.now.limit }
 {
-    if range.limit < 0 {
-        0
-    } else {
-        range.limit as usize
-    }
+    from_zero(i64::from(range.limit)) as usize
 }
 
 // The first so many entries of a walk that have not ended at the moment.
@@ -43,23 +29,12 @@ fn first_seen(
     while entries.len() < most {
         match cursor.next() {
             Some(entry) => {
-                if is_seen(entry, at) {
-                    push(&mut entries, entry.copy(alloc)?)?;
+                if is_visible(entry, at) {
+                    entries.add(entry.copy(alloc)?)?;
                 }
             }
             None => return Ok(entries),
         }
-    }
-    Ok(entries)
-}
-
-/// Copies of all entries of a walk.
-pub(crate) fn copies(alloc: Global, mut cursor: Cursor<'_>) -> Result<Run<Entry>, NoMemory>
-    ensures { IfOk result (λ entries. entries ≡ cursor.entry) }
-{
-    let mut entries = Run::new(alloc);
-    while let Some(entry) = cursor.next() {
-        push(&mut entries, entry.copy(alloc)?)?;
     }
     Ok(entries)
 }
@@ -71,7 +46,8 @@ fn read_one<T: Table>(
     range: &ReadRange,
     at: u64,
 ) -> Result<Run<Entry>, NoMemory>
-    ensures { IfOk result (λ entries. entries ≡ read_range (visible at (T.content table.now)) range.now) }
+    ensures { IfOk result (λ entries.
+        entries ≡ read_range (visible at (T.content table.now)) range.now) }
 {
     let cursor = table.walk(range.start.as_slice(), range.end.as_slice(), range.reverse);
     first_seen(alloc, cursor, most_of(range), at)
@@ -84,11 +60,12 @@ pub(crate) fn read_all<T: Table>(
     ranges: &[ReadRange],
     at: u64,
 ) -> Result<Run<Run<Entry>>, NoMemory>
-    ensures { IfOk result (λ answer. answer ≡ map (read_range (visible at (T.content table.now))) ranges.now) }
+    ensures { IfOk result (λ answer.
+        answer ≡ map (read_range (visible at (T.content table.now))) ranges.now) }
 {
     let mut answer = Run::new(alloc);
     for range in ranges {
-        push(&mut answer, read_one(alloc, table, range, at)?)?;
+        answer.add(read_one(alloc, table, range, at)?)?;
     }
     Ok(answer)
 }

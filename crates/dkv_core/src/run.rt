@@ -7,7 +7,6 @@ ghost use Rattle.dkv_base.specs.Steps.{replies, situation_after};
 ghost use Rattle.dkv_core.specs.Cores.{IsEffective, SameContent};
 ghost use Rattle.dkv_core.specs.Runs.{asks_no_watch, situation_of, StandsFor, IsAnswered, IsStep, IsCutShort};
 
-use crate::reading::push;
 use crate::{Core, Decided, Taken};
 use dkv_atomic::read_limits;
 use dkv_base::{Answer, Ask, AtomicWrite, MsgId, NoMemory, ReadRange, Run, Step};
@@ -15,18 +14,20 @@ use std::alloc::Global;
 
 impl Core {
     /// The answers to the steps in their order. Takes memory for the answers and for what is stored. Where memory is
-    /// wanting, some first steps were made, and the greatest moment may have risen to the next one's.
+    /// wanting, some first steps were made, and nothing else was.
     pub fn run(&mut self, alloc: Global, steps: &[Step]) -> Result<Run<Answer>, NoMemory>
         requires numbered { self.old.state.number + length steps.now < 2 ^ 64 }
         requires watchless { IsTrue (list_all asks_no_watch steps.now) }
-        ensures answers { IfOk result (λ answers. map said answers ≡ replies (situation_of self.old) steps.now []) }
-        ensures leaves { OnOk result (StandsFor (situation_after (situation_of self.old) steps.now []) self.new) }
+        ensures answers { IfOk result (λ answers.
+            map said answers ≡ replies (situation_of self.old) steps.now []) }
+        ensures leaves { OnOk result
+            (StandsFor (situation_after (situation_of self.old) steps.now []) self.new) }
         ensures err { OnErr result (IsCutShort self.old steps.now self.new) }
     {
         let mut answers = Run::new(alloc);
         for step in steps {
             let answer = self.step(alloc, step)?;
-            push(&mut answers, answer)?;
+            answers.add(answer)?;
         }
         Ok(answers)
     }
@@ -57,7 +58,8 @@ impl Core {
         at: u64,
     ) -> Result<Answer, NoMemory>
         requires { IsEffective self.old at }
-        ensures answer { IfOk result (λ answer. (who : ℕ) → IsAnswered self.old who at (Read ranges.now) answer self.new) }
+        ensures answer { IfOk result (λ answer.
+            (who : ℕ) → IsAnswered self.old who at (Read ranges.now) answer self.new) }
         ensures state { self.new.state ≡ self.old.state }
         ensures err { OnErr result (SameContent self.old self.new) }
     {
@@ -79,7 +81,8 @@ impl Core {
     ) -> Result<Answer, NoMemory>
         requires effective { IsEffective self.old at }
         requires numbered { self.old.state.number < 2 ^ 64 - 1 }
-        ensures answer { IfOk result (λ answer. IsAnswered self.old who at (Write write.now) answer self.new) }
+        ensures answer { IfOk result (λ answer.
+            IsAnswered self.old who at (Write write.now) answer self.new) }
         ensures next { self.new.state.number ≤ self.old.state.number + 1 }
         ensures err { OnErr result (SameContent self.old self.new) }
     {
@@ -102,7 +105,8 @@ impl Core {
     // The answer to a take at an effective moment.
     fn answer_take(&mut self, alloc: Global, at: u64) -> Result<Answer, NoMemory>
         requires { IsEffective self.old at }
-        ensures answer { IfOk result (λ answer. (who : ℕ) → IsAnswered self.old who at Take answer self.new) }
+        ensures answer { IfOk result (λ answer.
+            (who : ℕ) → IsAnswered self.old who at Take answer self.new) }
         ensures state { self.new.state ≡ self.old.state }
         ensures err { OnErr result (SameContent self.old self.new) }
     {
@@ -122,7 +126,8 @@ impl Core {
     ) -> Result<Answer, NoMemory>
         requires effective { IsEffective self.old at }
         requires numbered { self.old.state.number < 2 ^ 64 - 1 }
-        ensures answer { IfOk result (λ answer. (who : ℕ) → IsAnswered self.old who at (Settle id done) answer self.new) }
+        ensures answer { IfOk result (λ answer.
+            (who : ℕ) → IsAnswered self.old who at (Settle id done) answer self.new) }
         ensures next { self.new.state.number ≤ self.old.state.number + 1 }
         ensures err { OnErr result (SameContent self.old self.new) }
     {

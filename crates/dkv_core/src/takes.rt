@@ -1,3 +1,4 @@
+// What is due, and what a take gives.
 use dkv_base::Message;
 
 /// The message that is due first, or when one will be.

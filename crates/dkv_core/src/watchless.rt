@@ -1,3 +1,4 @@
+// Steps that ask for no watch.
 ghost use Rattle.std.specs.Prelude.{◌≡◌};
 ghost use Rattle.std.specs.List.{list_all};
 ghost use Rattle.dkv_core.specs.Runs.{asks_no_watch};

@@ -5,9 +5,9 @@ use Rattle.std.specs.List.{list_all}
 use Rattle.std.specs.Ordering.{is_lt, is_le, is_eq}
 use Rattle.std.proofs.lemmas.Bool.{and_parts, and_from, or_left, or_right, or_cases, leb-true, leb-false, ltb-true, lt-leb, le-leb, lt-ltb, eqb-true}
 use Rattle.std.proofs.lemmas.Cmp.{tied_itself}
-use Rattle.dkv_index.specs.Orders.{found, is_rising}
-use Rattle.dkv_index.proofs.Lookups.{found-put_in, found-left_out}
-use Rattle.dkv_index.proofs.Parts.{all_weaker}
+use Rattle.dkv_base.specs.Ordered.{found, is_rising}
+use Rattle.dkv_base.proofs.Lookups.{found-put_in, found-left_out}
+use Rattle.dkv_base.proofs.Lists.{all_weaker}
 use Rattle.dkv_expiry.specs.declared.ending.Ending.{Ending}
 use Rattle.dkv_expiry.specs.Endings.{ending_cmp, ending, same_ending, noted, dropped, first_upto, has}
 use Rattle.dkv_expiry.specs.Laws.{FirstIsLeast}
@@ -23,6 +23,7 @@ has-found q (p ∷ ps) =
     by true o = refl
     by false o = refl
 
+-- after a note the ending is there, and what was there before
 pub has-noted : (q : Ending) (at : ℕ) (key : List ℕ) (ps : List Ending) → has q (noted at key ps) ≡ (same_ending q (ending at key) || has q ps)
 has-noted q at key ps =
     has-found q (noted at key ps) ∙ ap is_some (found-put_in ending_total q (ending at key) ps)
@@ -32,6 +33,7 @@ has-noted q at key ps =
     by true o = refl
     by false o = refl
 
+-- after a drop the ending is gone, and the rest is there
 pub has-dropped : (q : Ending) (at : ℕ) (key : List ℕ) (ps : List Ending) → has q (dropped at key ps) ≡ (not (same_ending q (ending at key)) && has q ps)
 has-dropped q at key ps =
     has-found q (dropped at key ps) ∙ ap is_some (found-left_out ending_total q (ending at key) ps)
@@ -92,6 +94,7 @@ upto-some at (e ∷ es) p first = by (nat_le e.at at) refl first (upto-some at e
         (or_left (same_ending p e) (has p es) (ap (same_ending p) (sym is) ∙ same_itself p), leb-true p.at at (ap (λ q. nat_le q.at at) is ∙ le))
     by false late first later = (or_right (same_ending p e) (has p es) (later first).0, (later first).1)
 
+-- none up to the moment is before the first one
 pub first_is_least : FirstIsLeast
 first_is_least at [] p rising first = refl
 first_is_least at (e ∷ es) p rising first = by (nat_le e.at at) refl first (first_is_least at es p (and_parts _ _ rising).1)

@@ -1,6 +1,6 @@
 -- How two endings compare.
-use Rattle.std.proofs.Common.{◌≡◌, ◌<◌, ◌≤◌, true, ◌&&◌, refl, ap, ◌∙◌, arith}
-use Rattle.std.specs.Cmp.{IsTotalOrder, ranks, unsigned_tied}
+use Rattle.std.proofs.Common.{◌≡◌, ◌<◌, ◌≤◌, true, ◌&&◌, refl, sym, ap, ◌∙◌, arith}
+use Rattle.std.specs.Cmp.{IsTotalOrder, ranks, tied_then, unsigned_tied}
 use Rattle.std.specs.Ordering.{nat_cmp, is_lt, is_le, is_eq, ordering_then, MatchOrdering}
 use Rattle.std.specs.declared.cmp.Ordering.{Ordering}
 use Rattle.std.specs.declared.cmp.Ordering.TheVariants.{Less, Equal, Greater}
@@ -10,17 +10,13 @@ use Rattle.dkv_base.specs.State.{key_cmp}
 use Rattle.dkv_expiry.specs.declared.ending.Ending.{Ending}
 use Rattle.dkv_expiry.specs.Endings.{ending_cmp, same_ending}
 
+-- endings are in a total order
 pub ending_total : IsTotalOrder ending_cmp
 ending_total = then_total (on_total (λ (e : Ending). e.at) nat_cmp_total) (on_total (λ (e : Ending). e.key) nat_list_cmp_total)
 
-pub then-is_eq : (r s : Ordering) → is_eq (ordering_then r s) ≡ is_eq r && is_eq s
-then-is_eq Less s = refl
-then-is_eq Equal s = refl
-then-is_eq Greater s = refl
-
 -- they tie where they are one
 pub ties : (p q : Ending) → is_eq (ending_cmp p q) ≡ same_ending p q
-ties p q = then-is_eq (nat_cmp p.at q.at) (key_cmp p.key q.key) ∙ (λ i. unsigned_tied p.at q.at i && is_eq-slice_cmp p.key q.key i)
+ties p q = sym (tied_then (nat_cmp p.at q.at) (key_cmp p.key q.key)) ∙ (λ i. unsigned_tied p.at q.at i && is_eq-slice_cmp p.key q.key i)
 
 -- what ranks above is no earlier
 pub no_earlier : (p q : Ending) → is_lt (ending_cmp p q) ≡ true → p.at ≤ q.at
@@ -31,6 +27,7 @@ no_earlier p q h = by (nat_cmp p.at q.at) (ranks p.at q.at) h
     by Equal is h = omega arith
     by Greater gt h = absurd (cc h)
 
+-- what ranks below or as another does not rank above it
 pub le-lt : (r : Ordering) → is_lt r ≡ true → is_le r ≡ true
 le-lt Less h = refl
 le-lt Equal h = refl

@@ -9,7 +9,7 @@ use Rattle.std.specs.List.{list_any}
 use Rattle.std.specs.Ordering.{nat_cmp, ordering_then}
 use Rattle.std.specs.declared.cmp.Ordering.{Ordering}
 use Rattle.dkv_base.specs.State.{key_cmp}
-use Rattle.dkv_index.specs.Orders.{put_in, left_out}
+use Rattle.dkv_base.specs.Ordered.{put_in, left_out}
 use Rattle.dkv_expiry.specs.declared.ending.Ending.{Ending}
 
 -- the endings in rising order, and how many more find room without memory

@@ -3,7 +3,7 @@
 use Rattle.std.specs.Prelude.{ℕ, ◌≡◌, ◌||◌, nat_lt, IsTrue, List, Some}
 use Rattle.std.specs.List.{list_all}
 use Rattle.std.specs.Ordering.{is_le}
-use Rattle.dkv_index.specs.Orders.{is_rising}
+use Rattle.dkv_base.specs.Ordered.{is_rising}
 use Rattle.dkv_expiry.specs.declared.ending.Ending.{Ending}
 use Rattle.dkv_expiry.specs.Endings.{ending_cmp, first_upto}
 

@@ -1,3 +1,4 @@
+// When an entry ends, and what is looked for among such moments.
 ghost use Rattle.std.specs.Prelude.{◌≡◌};
 ghost use Rattle.dkv_expiry.specs.Endings.{ending_cmp};
 
@@ -35,7 +36,8 @@ impl Ranked for Ending {
 
     ghost rank = { ending_cmp };
 
-    ghost total = { then_total (on_total (λ e. e.at) nat_cmp_total) (on_total (λ e. e.key) nat_list_cmp_total) };
+    ghost total = { then_total (on_total (λ e.
+        e.at) nat_cmp_total) (on_total (λ e. e.key) nat_list_cmp_total) };
 
     fn rank(&self, other: &Ending) -> Ordering {
         compare(self.at, self.key.as_slice(), other)

@@ -1,6 +1,7 @@
+// The moments at which entries end, kept in order.
 ghost use Rattle.std.specs.Prelude.{◌≡◌, ◌+◌, ◌<◌, ◌≤◌, [], IsTrue, OnOk, OnErr, option_map};
 ghost use Rattle.std.specs.Option.{option_copied};
-ghost use Rattle.dkv_index.specs.Orders.{is_rising};
+ghost use Rattle.dkv_base.specs.Ordered.{is_rising};
 ghost use Rattle.dkv_expiry.specs.Endings.{ending_cmp, noted, dropped, first_upto};
 
 use crate::Ending;
@@ -65,7 +66,8 @@ impl Expiry {
 
     /// The key of what ends first, if that ends at `at` or before it, in milliseconds since 1970. Takes no memory.
     pub fn due_upto(&self, at: u64) -> Option<&Bytes>
-        ensures due { option_copied result ≡ option_map (λ p. p.key) (first_upto at self.now.pairs) }
+        ensures due { option_copied result ≡ option_map (λ p.
+            p.key) (first_upto at self.now.pairs) }
         ensures rising { IsTrue (is_rising ending_cmp self.now.pairs) }
     {
         let first = self.pairs.first()?;

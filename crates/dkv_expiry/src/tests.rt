@@ -1,3 +1,4 @@
+// Endings come and go in the order of their moments.
 use super::*;
 use dkv_base::Bytes;
 use std::alloc::Global;

@@ -6,9 +6,9 @@ use Rattle.std.specs.declared.cmp.Ordering.{Ordering}
 use Rattle.std.specs.declared.cmp.Ordering.TheVariants.{Less, Equal, Greater}
 use Rattle.std.specs.Cmp.{IsTotalOrder}
 use Rattle.std.proofs.lemmas.Bool.{and_parts, and_from}
-use Rattle.dkv_index.specs.Orders.{found, put_in, left_out, is_rising}
-use Rattle.dkv_index.proofs.Ranks.{eq_is}
-use Rattle.dkv_index.proofs.Parts.{found-above, found-here, left_out-above, all_above-lt, all_above-eq}
+use Rattle.dkv_base.specs.Ordered.{found, put_in, left_out, is_rising}
+use Rattle.dkv_base.proofs.Ranks.{eq_is}
+use Rattle.dkv_base.proofs.RankedLists.{found-above, found-here, left_out-above, all_above-lt, all_above-eq}
 
 -- one where there is a value
 abbrev pub one_of : {X : Type 0} → Option X → ℕ

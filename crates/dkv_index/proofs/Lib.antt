@@ -1,6 +1,2 @@
-pub mod Ranks
-pub mod Parts
 pub mod Sides
-pub mod Risings
-pub mod Lookups
 pub mod Counts

@@ -8,9 +8,9 @@ use Rattle.std.specs.declared.cmp.Ordering.TheVariants.{Less, Equal, Greater}
 use Rattle.std.specs.Cmp.{IsTotalOrder}
 use Rattle.std.proofs.lemmas.Bool.{and_parts, and_from}
 use Rattle.std.proofs.lemmas.List.Folds.{list_all-append, find-append}
-use Rattle.dkv_index.specs.Orders.{found, above, put_in, left_out, is_rising}
-use Rattle.dkv_index.proofs.Ranks.{less}
-use Rattle.dkv_index.proofs.Parts.{all_below-lt, all_below-eq, all_above-lt, all_above-eq, found-below, found-here, found-above, above-below, above-here, above-first, put_in-below, put_in-here, put_in-above, left_out-below, left_out-here, left_out-above}
+use Rattle.dkv_base.specs.Ordered.{found, above, put_in, left_out, is_rising}
+use Rattle.dkv_base.proofs.Ranks.{less}
+use Rattle.dkv_base.proofs.RankedLists.{all_below-lt, all_below-eq, all_above-lt, all_above-eq, found-below, found-here, found-above, above-below, above-here, above-first, put_in-below, put_in-here, put_in-above, left_out-below, left_out-here, left_out-above}
 
 -- the sides rise, and the item is between them
 pub record IsBetween {T : Type 0} (cmp : T → T → Ordering) (ls : List T) (y : T) (rs : List T) : Type 0 where

@@ -4,7 +4,7 @@ use Rattle.std.specs.declared.cmp.Ordering.{Ordering}
 use Rattle.dkv_index.specs.declared.tree.Tree.{Tree}
 use Rattle.dkv_index.specs.declared.tree.Tree.TheVariants.{Leaf, Fork'}
 use Rattle.dkv_index.specs.Contents.{Nodes}
-use Rattle.dkv_index.specs.Orders.{is_rising}
+use Rattle.dkv_base.specs.Ordered.{is_rising}
 
 -- the items from left to right
 abbrev pub items_of : {T : Type 0} → Tree T → List T

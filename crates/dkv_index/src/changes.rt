@@ -1,6 +1,6 @@
 // How an item goes into a tree, and out of one.
 ghost use Rattle.std.specs.Prelude.{◌≡◌, ◌∷◌, ◌++◌, IsTrue, option_map};
-ghost use Rattle.dkv_index.specs.Orders.{found, put_in, left_out, is_rising};
+ghost use Rattle.dkv_base.specs.Ordered.{found, put_in, left_out, is_rising};
 ghost use Rattle.dkv_index.specs.Trees.{items_of};
 
 use crate::tree::{Node, Opened, Tree, balance, fork, open};
@@ -19,7 +19,8 @@ pub(crate) struct Grown<T> {
 pub(crate) fn grow<T: Ranked>(tree: Tree<T>, mut new: Box<Node<T>>) -> Grown<T>
     requires { IsTrue (is_rising T.rank (items_of tree)) }
     ensures items { items_of result.tree ≡ put_in T.rank new.value.item (items_of tree) }
-    ensures over { option_map (λ node. node.value.item) result.over ≡ found T.rank new.value.item (items_of tree) }
+    ensures over { option_map (λ node. node.value.item) result.over
+        ≡ found T.rank new.value.item (items_of tree) }
 {
     match tree {
         Tree::Leaf => Grown {
@@ -64,8 +65,10 @@ pub(crate) struct Shrunk<T> {
 // Takes the node out whose item ranks as the probe does.
 pub(crate) fn shrink<T: Ranked, P: Probe<T>>(tree: Tree<T>, probe: &P) -> Shrunk<T>
     requires { IsTrue (is_rising T.rank (items_of tree)) }
-    ensures items { items_of result.tree ≡ left_out T.rank (P.stands_for probe.now) (items_of tree) }
-    ensures out { option_map (λ node. node.value.item) result.out ≡ found T.rank (P.stands_for probe.now) (items_of tree) }
+    ensures items { items_of result.tree
+        ≡ left_out T.rank (P.stands_for probe.now) (items_of tree) }
+    ensures out { option_map (λ node. node.value.item) result.out
+        ≡ found T.rank (P.stands_for probe.now) (items_of tree) }
 {
     match tree {
         Tree::Leaf => Shrunk {
@@ -119,7 +122,8 @@ struct Lowest<T> {
 }
 
 fn take_lowest<T: Drop>(node: Box<Node<T>>) -> Lowest<T>
-    ensures { result.node.value.item ∷ items_of result.rest ≡ items_of node.value.left ++ node.value.item ∷ items_of node.value.right }
+    ensures { result.node.value.item ∷ items_of result.rest
+        ≡ items_of node.value.left ++ node.value.item ∷ items_of node.value.right }
 {
     let Opened { left, node, right } = open(node);
     match left {

@@ -1,13 +1,15 @@
-ghost use Rattle.std.specs.Prelude.{◌≡◌, ◌+◌, ◌≤◌, ◌<◌, [], ◌∷◌, length, slice_get, IsTrue, IfSome, IfNone, OnOk, OnErr};
+// The set of items, with its counts and its spare room.
+ghost use Rattle.std.specs.Prelude.{◌≡◌, ◌+◌, ◌≤◌, ◌<◌, [], ◌∷◌, length, slice_get, IsTrue, IfSome, IfNone, IfOk, OnOk, OnErr};
 ghost use Rattle.std.specs.Option.{option_copied};
-ghost use Rattle.dkv_index.specs.Orders.{found, above, put_in, left_out, is_rising};
+ghost use Rattle.dkv_base.specs.Ordered.{found, above, put_in, left_out, is_rising};
 
 use crate::changes::{grow, shrink};
+use crate::copies::copy_tree;
 use crate::pool::Pool;
 use crate::searches::{look_above, look_first, look_up};
 use crate::tree::Tree;
 use crate::{Probe, Ranked};
-use dkv_base::NoMemory;
+use dkv_base::{NoMemory, TryCopy};
 use std::alloc::Global;
 use std::marker::Model;
 use std::mem;
@@ -66,7 +68,8 @@ impl<T: Ranked> Index<T> {
 
     /// The item that ranks as the probe does. Takes no memory.
     pub fn get<P: Probe<T>>(&self, probe: &P) -> Option<&T>
-        ensures found { option_copied result ≡ found T.rank (P.stands_for probe.now) self.now.items }
+        ensures found { option_copied result
+            ≡ found T.rank (P.stands_for probe.now) self.now.items }
         ensures rising { IsTrue (is_rising T.rank self.now.items) }
     {
         look_up(&self.tree, probe)
@@ -82,7 +85,8 @@ impl<T: Ranked> Index<T> {
 
     /// The first item that ranks above the probe. Takes no memory.
     pub fn above<P: Probe<T>>(&self, probe: &P) -> Option<&T>
-        ensures above { option_copied result ≡ above T.rank (P.stands_for probe.now) self.now.items }
+        ensures above { option_copied result
+            ≡ above T.rank (P.stands_for probe.now) self.now.items }
         ensures rising { IsTrue (is_rising T.rank self.now.items) }
     {
         look_above(&self.tree, probe)
@@ -125,5 +129,20 @@ impl<T: Ranked> Index<T> {
             }
             None => None,
         }
+    }
+}
+
+impl<T: Ranked + TryCopy> Index<T> {
+    /// An index of equal items, with no room to spare. Takes memory for it.
+    pub fn copy(&self, alloc: Global) -> Result<Index<T>, NoMemory>
+        ensures { IfOk result (λ copy. copy.items ≡ self.now.items) }
+    {
+        let pool = Pool::beside(alloc, self.count)?;
+        let tree = copy_tree(&self.tree, alloc)?;
+        Ok(Index {
+            tree,
+            count: self.count,
+            pool,
+        })
     }
 }

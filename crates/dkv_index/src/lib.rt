@@ -6,6 +6,7 @@
 #![tactic(auto)]
 
 mod changes;
+mod copies;
 mod index;
 mod pool;
 mod ranked;

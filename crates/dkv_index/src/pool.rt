@@ -1,9 +1,9 @@
 // Nodes that wait for an item, so that a put takes no memory and a removal gives none back.
-ghost use Rattle.std.specs.Prelude.{◌≡◌, ◌+◌, ◌^◌, ◌≤◌, ◌<◌, OnOk, OnErr, vec_len};
+ghost use Rattle.std.specs.Prelude.{◌≡◌, ◌+◌, ◌^◌, ◌≤◌, ◌<◌, IfOk, OnOk, OnErr, vec_len};
 ghost use Rattle.std.specs.Vec.{vec_capacity};
 
 use crate::Ranked;
-use crate::tree::{Node, Tree};
+use crate::tree::{Node, Tree, boxed};
 use dkv_base::NoMemory;
 use std::alloc::Global;
 use std::marker::Model;
@@ -35,6 +35,16 @@ impl<T: Ranked> Pool<T> {
         }
     }
 
+    // Has no node ready, and room for as many as there are outside.
+    pub(crate) fn beside(alloc: Global, outside: usize) -> Result<Pool<T>, NoMemory>
+        ensures ready { IfOk result (λ pool. pool.ready ≡ 0) }
+        ensures places { IfOk result (λ pool. outside ≤ pool.places) }
+    {
+        let mut nodes = Vec::new(alloc);
+        nodes.reserve(outside)?;
+        Ok(Pool { nodes, alloc })
+    }
+
     // Makes `n` nodes ready, and keeps room for as many as there are outside besides.
     pub(crate) fn fill(&mut self, outside: usize, n: usize) -> Result<(), NoMemory>
         requires { outside + self.old.ready ≤ self.old.places }
@@ -46,13 +56,9 @@ impl<T: Ranked> Pool<T> {
         let Some(more) = n.checked_sub(self.nodes.len()) else {
             return Ok(());
         };
-        let Some(room) = outside.checked_add(more) else {
-            return Err(NoMemory);
-        };
-        match self.nodes.reserve(room) {
-            Ok(()) => fill_up(&mut self.nodes, self.alloc, n),
-            Err(_) => Err(NoMemory),
-        }
+        let room = outside.checked_add(more).ok_or(NoMemory)?;
+        self.nodes.reserve(room)?;
+        fill_up(&mut self.nodes, self.alloc, n)
     }
 
     // A node with the item.
@@ -109,8 +115,5 @@ fn make_node<T: Ranked>(alloc: Global) -> Result<Box<Node<T>>, NoMemory> {
         height: 0,
         right: Tree::Leaf,
     };
-    match Box::new(alloc, node) {
-        Ok(node) => Ok(node),
-        Err(_) => Err(NoMemory),
-    }
+    boxed(alloc, node)
 }

@@ -1,7 +1,7 @@
 // Searches down a tree.
 ghost use Rattle.std.specs.Prelude.{◌≡◌, IsTrue, slice_get};
 ghost use Rattle.std.specs.Option.{option_copied};
-ghost use Rattle.dkv_index.specs.Orders.{found, above, is_rising};
+ghost use Rattle.dkv_base.specs.Ordered.{found, above, is_rising};
 ghost use Rattle.dkv_index.specs.Trees.{items_of};
 
 use crate::tree::Tree;

@@ -1,8 +1,10 @@
 // A search tree whose sides differ in height by one at the most. Only the order of its items is proved: that the tree stays
 // shallow is a habit of this code, which the tests look at.
-ghost use Rattle.std.specs.Prelude.{◌≡◌, ◌∷◌, ◌++◌};
+ghost use Rattle.std.specs.Prelude.{◌≡◌, ◌∷◌, ◌++◌, IfOk};
 ghost use Rattle.dkv_index.specs.Trees.{items_of};
 
+use dkv_base::NoMemory;
+use std::alloc::Global;
 use std::mem;
 
 #[cycle(tree)]
@@ -19,6 +21,16 @@ pub(crate) struct Node<T> {
     pub(crate) item: T,
     pub(crate) height: u8,
     pub(crate) right: Tree<T>,
+}
+
+// Puts the node into a box of its own.
+pub(crate) fn boxed<T: Drop>(alloc: Global, node: Node<T>) -> Result<Box<Node<T>>, NoMemory>
+    ensures { IfOk result (λ place. place.value ≡ node) }
+{
+    match Box::new(alloc, node) {
+        Ok(place) => Ok(place),
+        Err(_) => Err(NoMemory),
+    }
 }
 
 // A node without its sides.
@@ -120,7 +132,8 @@ fn turn<T: Drop>(
     high: Box<Node<T>>,
     right: Tree<T>,
 ) -> Tree<T>
-    ensures { items_of result ≡ items_of left ++ low.value.item ∷ (items_of middle ++ high.value.item ∷ items_of right) }
+    ensures { items_of result
+        ≡ items_of left ++ low.value.item ∷ (items_of middle ++ high.value.item ∷ items_of right) }
 {
     match middle {
         Tree::Leaf => fork(left, low, fork(Tree::Leaf, high, right)),

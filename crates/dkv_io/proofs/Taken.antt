@@ -1,7 +1,6 @@
 -- What is taken off the front of bytes, and what is left behind it.
-use Rattle.std.proofs.Common.{◌≡◌, sym, ap, ◌∙◌, subst, ℕ, ◌+◌, ◌-◌, List, ◌++◌, length, take, drop}
-use Rattle.std.proofs.lemmas.List.{take-append-drop, drop-drop, length-drop}
-use Rattle.std.proofs.Math.Seq.{take-length}
+use Rattle.std.proofs.Common.{◌≡◌, sym, ap, ◌∙◌, ℕ, ◌+◌, ◌-◌, List, ◌++◌, length, take, drop}
+use Rattle.std.proofs.lemmas.List.{take-append-drop, drop-drop, take_rest}
 
 -- a copy of the front of the bytes from a place on is what the place passes
 pub taken : (place n : ℕ) (bytes into : List ℕ) → take n into ≡ take n (drop place bytes) → drop place bytes ≡ take n into ++ drop (place + n) bytes
@@ -10,11 +9,8 @@ taken place n bytes into front =
     ∙ ap (λ l. take n (drop place bytes) ++ l) (drop-drop n place bytes)
     ∙ ap (λ l. l ++ drop (place + n) bytes) (sym front)
 
--- the bytes from a place on, as a slice says it
-rest_of : (place : ℕ) (bytes : List ℕ) → take (length bytes - place) (drop place bytes) ≡ drop place bytes
-rest_of place bytes = ap (λ k. take k (drop place bytes)) (sym (length-drop place bytes)) ∙ take-length (drop place bytes)
-
+-- the same, as a slice says it
 pub taken_of_slice : (place n : ℕ) (bytes seen into : List ℕ) → seen ≡ bytes → take n into ≡ take n (take (length seen - place) (drop place seen))
     → drop place bytes ≡ take n into ++ drop (place + n) bytes
 taken_of_slice place n bytes seen into is front =
-    taken place n bytes into (front ∙ ap (λ l. take n l) (rest_of place seen) ∙ ap (λ l. take n (drop place l)) is)
+    taken place n bytes into (front ∙ ap (λ l. take n l) (take_rest seen place) ∙ ap (λ l. take n (drop place l)) is)

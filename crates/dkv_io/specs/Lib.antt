@@ -3,3 +3,5 @@ pub mod Streams
 pub mod Disks
 pub mod Past
 pub mod Clocks
+pub mod Memories
+pub mod Plans

@@ -73,7 +73,7 @@ escaped_order (suc m ∷ a) (suc n ∷ b) s t f g =
 -- bytes that end have one text, and one rest
 pub one_text : (bytes x r y s : List ℕ) → HasText bytes x r → HasText bytes y s → (x ≡ y) × (r ≡ s)
 one_text bytes x r y s f g =
-    let same = sym (escaped_order x y r s f.follows g.follows) ∙ key_cmp-equal _ _ (sym f.parts ∙ g.parts) in
+    let same = sym (escaped_order x y r s f.follows g.follows) ∙ key_cmp-equal _ _ (sym f.spelled ∙ g.spelled) in
     (same_keys x y (then_first (key_cmp x y) (key_cmp r s) same), same_keys r s (then_second (key_cmp x y) (key_cmp r s) same))
 
 ends_below : (r : List ℕ) → StartsBelowFF r → StartsBelowFF (r ++ 0 ∷ [])
@@ -83,9 +83,9 @@ ends_below (b ∷ r) f = f
 -- bytes that are only escaped don't end
 pub no_end : (bytes x : List ℕ) → bytes ≡ escaped x → (y r : List ℕ) → HasText bytes y r → ⊥
 no_end bytes x is y r g =
-    let whole : HasText (bytes ++ 0 ∷ []) x [] = record { parts = ap (λ (l : List ℕ). l ++ 0 ∷ []) is; follows = tt } in
+    let whole : HasText (bytes ++ 0 ∷ []) x [] = record { spelled = ap (λ (l : List ℕ). l ++ 0 ∷ []) is; follows = tt } in
     let other : HasText (bytes ++ 0 ∷ []) y (r ++ 0 ∷ []) = record {
-      parts = ap (λ (l : List ℕ). l ++ 0 ∷ []) g.parts ∙ append_assoc (escaped y) (0 ∷ r) (0 ∷ []);
+      spelled = ap (λ (l : List ℕ). l ++ 0 ∷ []) g.spelled ∙ append_assoc (escaped y) (0 ∷ r) (0 ∷ []);
       follows = ends_below r g.follows;
     } in
     let both = one_text (bytes ++ 0 ∷ []) x [] y (r ++ 0 ∷ []) whole other in

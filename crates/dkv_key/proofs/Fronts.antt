@@ -5,11 +5,11 @@ use Rattle.std.proofs.lemmas.Bool.{and_parts, and_from}
 use Rattle.std.proofs.lemmas.List.{append-nil}
 use Rattle.std.proofs.lemmas.List.Elements.{All-head, All-tail, All-nil, All-cons}
 use Rattle.std.proofs.lemmas.Grind.{flat_map-append}
-use Rattle.dkv_base.specs.State.{key_cmp}
+use Rattle.dkv_base.specs.State.{is_between, key_cmp}
 use Rattle.dkv_key.specs.declared.part.Part.{Part}
 use Rattle.dkv_key.specs.declared.part.Part.TheVariants as part
-use Rattle.dkv_key.specs.Parts.{IsPart, AreParts, spelling, key, part_cmp, parts_cmp}
-use Rattle.dkv_key.specs.Reading.{StartsBelowFF, MayFollow, Begins, NoPart, IsFront, IsKey, FirstFault, is_between}
+use Rattle.dkv_key.specs.Parts.{IsPart, AreParts, HasMore, spelling, key, part_cmp, parts_cmp, range_start, range_end}
+use Rattle.dkv_key.specs.Reading.{StartsBelowFF, MayFollow, Begins, NoPart, IsFront, IsKey, FirstFault, NoKey}
 use Rattle.dkv_key.proofs.Orders.{ranked, key_cmp-same, first_less, first_greater, first_equal, same_length}
 use Rattle.dkv_key.proofs.PartOrder.{head_of, part_order, one_part}
 
@@ -31,7 +31,7 @@ key_follows p ps all = may_follow p (key ps) (subst (λ (l : List ℕ). StartsBe
 
 pub front_spelled : (ps : List Part) (bytes rest : List ℕ) → IsFront ps bytes rest → bytes ≡ key ps ++ rest
 front_spelled [] bytes rest f = f
-front_spelled (p ∷ ps) bytes rest f = f.1.parts ∙ ap (λ (l : List ℕ). spelling p ++ l) (front_spelled ps f.0 rest f.2) ∙ sym (append_assoc (spelling p) (key ps) rest)
+front_spelled (p ∷ ps) bytes rest f = f.1.spelled ∙ ap (λ (l : List ℕ). spelling p ++ l) (front_spelled ps f.0 rest f.2) ∙ sym (append_assoc (spelling p) (key ps) rest)
 
 pub front_parts : (ps : List Part) (bytes rest : List ℕ) → IsFront ps bytes rest → AreParts ps
 front_parts [] bytes rest f = All-nil IsPart
@@ -42,7 +42,7 @@ front_of [] rest all f = refl
 front_of (p ∷ ps) rest all f =
     let tail = All-tail IsPart p ps all in (
       key ps ++ rest,
-      record { is_part = All-head IsPart p ps all; parts = append_assoc (spelling p) (key ps) rest; follows = may_follow p (key ps ++ rest) (key_below ps rest tail f) },
+      record { is_part = All-head IsPart p ps all; spelled = append_assoc (spelling p) (key ps) rest; follows = may_follow p (key ps ++ rest) (key_below ps rest tail f) },
       front_of ps rest tail f,
     )
 
@@ -57,7 +57,7 @@ front_more (q ∷ ps) p bytes rest behind f b = (f.0, f.1, front_more ps p f.0 r
 pub no_part : NoPart []
 no_part p rest b =
     let h = head_of p b.is_part.well_formed in
-    let e = ap length (b.parts ∙ ap (λ (l : List ℕ). l ++ rest) h.is) in
+    let e = ap length (b.spelled ∙ ap (λ (l : List ℕ). l ++ rest) h.is) in
     omega (arith, e)
 
 -- bytes begin with one list of parts, where none begins behind it
@@ -78,7 +78,7 @@ one_fault at other bytes f g =
     let both = one_front f.before g.before bytes f.rest g.rest f.is_front g.is_front f.none g.none in
     sym f.place ∙ ap (λ (ps : List Part). length (key ps)) both.0 ∙ g.place
 
-pub no_key : (at : ℕ) (bytes : List ℕ) → FirstFault at bytes → (ps : List Part) → IsKey ps bytes → ⊥
+pub no_key : (at : ℕ) (bytes : List ℕ) → FirstFault at bytes → NoKey bytes
 no_key at bytes f ps k =
     let front = subst (λ (l : List ℕ). IsFront ps l []) (sym k.spelled) (whole_front ps k.are_parts) in
     f.more (one_front f.before ps bytes f.rest [] f.is_front front f.none no_part).1
@@ -115,10 +115,10 @@ front_split (p ∷ ps) [] r f g e below =
 front_split (p ∷ ps) (q ∷ qs) r f g e below =
     let f' = All-tail IsPart p ps f in
     let g' = All-tail IsPart q qs g in
-    let one : Begins (spelling q ++ key qs) q (key qs) = record { is_part = All-head IsPart q qs g; parts = refl; follows = key_follows q qs g' } in
+    let one : Begins (spelling q ++ key qs) q (key qs) = record { is_part = All-head IsPart q qs g; spelled = refl; follows = key_follows q qs g' } in
     let other : Begins (spelling q ++ key qs) p (key ps ++ r) = record {
       is_part = All-head IsPart p ps f;
-      parts = e ∙ append_assoc (spelling p) (key ps) r;
+      spelled = e ∙ append_assoc (spelling p) (key ps) r;
       follows = may_follow p (key ps ++ r) (key_below ps r f' below);
     } in
     let both = one_part (spelling q ++ key qs) q p (key qs) (key ps ++ r) one other in
@@ -165,7 +165,7 @@ between (x ∷ k) (y ∷ ys) a b =
 behind_same : (k a b : List ℕ) → key_cmp (k ++ a) (k ++ b) ≡ key_cmp a b
 behind_same k a b = same_length k k a b refl ∙ ap (λ o. ordering_then o (key_cmp a b)) (key_cmp-same k)
 
-is_behind : (k t : List ℕ) (c : ℕ) → 0 < c → c < 255 → is_between (k ++ 0 ∷ []) (k ++ 255 ∷ []) (k ++ c ∷ t) ≡ true
+is_behind : (k t : List ℕ) (c : ℕ) → 0 < c → c < 255 → is_between (range_start k) (range_end k) (k ++ c ∷ t) ≡ true
 is_behind k t c some below =
     and_from _ _
     (ap is_le (behind_same k (0 ∷ []) (c ∷ t) ∙ first_less 0 c [] t some))
@@ -175,19 +175,16 @@ part_behind : (ps : List Part) (m : Part) (ms : List Part) → AreParts (ps ++ m
 part_behind [] m ms all = All-head IsPart m ms all
 part_behind (p ∷ ps) m ms all = part_behind ps m ms (All-tail IsPart p (ps ++ m ∷ ms) all)
 
-abbrev pub HasMore : List Part → List Part → Type 0
-HasMore ps qs = (more : List Part) × (more ≢ []) × (qs ≡ ps ++ more)
-
-pub range_has_more : (ps qs : List Part) → AreParts ps → AreParts qs → is_between (key ps ++ 0 ∷ []) (key ps ++ 255 ∷ []) (key qs) ≡ true → HasMore ps qs
+pub range_has_more : (ps qs : List Part) → AreParts ps → AreParts qs → is_between (range_start (key ps)) (range_end (key ps)) (key qs) ≡ true → HasMore ps qs
 range_has_more ps qs f g is =
     let parts = and_parts _ _ is in
     let at = between (key ps) (key qs) parts.0 parts.1 in
     let split = front_split ps qs (at.0 ∷ at.1) f g at.2 at.3 in
     (split.0, (λ e. omega (arith, ap length (sym split.2 ∙ ap key e))), split.1)
 
-pub more_in_range : (ps qs : List Part) → AreParts qs → (more : List Part) → more ≢ [] → qs ≡ ps ++ more → is_between (key ps ++ 0 ∷ []) (key ps ++ 255 ∷ []) (key qs) ≡ true
+pub more_in_range : (ps qs : List Part) → AreParts qs → (more : List Part) → more ≢ [] → qs ≡ ps ++ more → is_between (range_start (key ps)) (range_end (key ps)) (key qs) ≡ true
 more_in_range ps qs g [] some is = absurd (some refl)
 more_in_range ps qs g (m ∷ ms) some is =
     let h = head_of m (part_behind ps m ms (subst AreParts is g)).well_formed in
     let spelled : key qs ≡ key ps ++ h.first ∷ (h.rest ++ key ms) = ap key is ∙ flat_map-append spelling ps (m ∷ ms) ∙ ap (λ (l : List ℕ). key ps ++ (l ++ key ms)) h.is in
-    subst (λ (l : List ℕ). is_between (key ps ++ 0 ∷ []) (key ps ++ 255 ∷ []) l ≡ true) (sym spelled) (is_behind (key ps) (h.rest ++ key ms) h.first h.some (omega (arith, h.below)))
+    subst (λ (l : List ℕ). is_between (range_start (key ps)) (range_end (key ps)) l ≡ true) (sym spelled) (is_behind (key ps) (h.rest ++ key ms) h.first h.some (omega (arith, h.below)))

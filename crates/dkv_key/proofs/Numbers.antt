@@ -6,17 +6,16 @@ use Rattle.std.specs.declared.cmp.Ordering.TheVariants.{Less, Equal, Greater}
 use Rattle.std.proofs.lemmas.Bool.{lt-ltb, le-ltb}
 use Rattle.std.proofs.Math.Nat.{pow-succ', mul-le-mul_right}
 use Rattle.dkv_base.specs.State.{key_cmp}
-use Rattle.dkv_key.specs.Parts.{HasNoLeadingZero, AreBytes, number}
+use Rattle.dkv_base.proofs.ByteLists.{below_tail}
+use Rattle.hex.specs.Hex.{IsBytes}
+use Rattle.dkv_key.specs.Parts.{HasNoLeadingZero, number}
 use Rattle.dkv_key.proofs.Orders.{nat_less, nat_equal, nat_greater, ranked, ranked_alike}
 
-pub bytes_tail : (b : ℕ) (bytes : List ℕ) → AreBytes (b ∷ bytes) → AreBytes bytes
-bytes_tail b bytes all i = all (suc i)
-
 -- so many bytes write numbers below this
-pub number_below : (a : List ℕ) → AreBytes a → number a < 256 ^ length a
+pub number_below : (a : List ℕ) → IsBytes a → number a < 256 ^ length a
 number_below [] all = omega arith
 number_below (b ∷ a) all =
-    let low = number_below a (bytes_tail b a all) in
+    let low = number_below a (below_tail b a all) in
     let top : b ≤ 255 = omega (arith, all 0) in
     let product : b * 256 ^ length a ≤ 255 * 256 ^ length a = mul-le-mul_right (256 ^ length a) top in
     let power : 256 ^ suc (length a) ≡ 256 * 256 ^ length a = pow-succ' 256 (length a) in
@@ -29,17 +28,17 @@ step_up x y w n m lt low =
     omega (arith, product, parts, low)
 
 -- numbers of as many bytes compare by these
-pub number_order : (a b : List ℕ) → AreBytes a → AreBytes b → length a ≡ length b → nat_cmp (number a) (number b) ≡ key_cmp a b
+pub number_order : (a b : List ℕ) → IsBytes a → IsBytes b → length a ≡ length b → nat_cmp (number a) (number b) ≡ key_cmp a b
 number_order [] [] f g e = refl
 number_order [] (y ∷ b) f g e = absurd (omega (arith, e))
 number_order (x ∷ a) [] f g e = absurd (omega (arith, e))
 number_order (x ∷ a) (y ∷ b) f g e =
     let sizes : length a ≡ length b = omega (arith, e) in
     let powers : 256 ^ length a ≡ 256 ^ length b = ap (λ (n : ℕ). 256 ^ n) sizes in
-    let low = number_below a (bytes_tail x a f) in
-    let high = number_below b (bytes_tail y b g) in
+    let low = number_below a (below_tail x a f) in
+    let high = number_below b (below_tail y b g) in
     let same : number (y ∷ b) ≡ y * 256 ^ length a + number b = ap (λ (n : ℕ). y * n + number b) (sym powers) in
-    let rest = number_order a b (bytes_tail x a f) (bytes_tail y b g) sizes in
+    let rest = number_order a b (below_tail x a f) (below_tail y b g) sizes in
     ap (nat_cmp (number (x ∷ a))) same
     ∙ elim (ranked x y) [
       | inl lt ↦ nat_less _ _ (step_up x y (256 ^ length a) (number a) (number b) lt low) ∙ ap (λ o. ordering_then o (key_cmp a b)) (sym (nat_less x y lt))
@@ -68,7 +67,7 @@ power_rises n (suc k) =
     subst P (sym e) (omega (arith, power_rises n k, pow-succ' 256 (n + k)))
 
 -- more bytes without a leading zero write a greater number
-pub number_longer : (a b : List ℕ) → AreBytes a → HasNoLeadingZero b → length a < length b → number a < number b
+pub number_longer : (a b : List ℕ) → IsBytes a → HasNoLeadingZero b → length a < length b → number a < number b
 number_longer a [] f z lt = absurd (omega (arith, lt))
 number_longer a (y ∷ b) f z lt =
     let k = length b - length a in
@@ -81,7 +80,7 @@ pub number_some : (a : List ℕ) → HasNoLeadingZero a → 0 < length a → 0 <
 number_some a z some = number_longer [] a (λ i. omega arith) z some
 
 -- magnitudes compare by their sizes and then by their bytes
-pub magnitude_order : (a b : List ℕ) → AreBytes a → AreBytes b → HasNoLeadingZero a → HasNoLeadingZero b
+pub magnitude_order : (a b : List ℕ) → IsBytes a → IsBytes b → HasNoLeadingZero a → HasNoLeadingZero b
     → nat_cmp (number a) (number b) ≡ ordering_then (nat_cmp (length a) (length b)) (key_cmp a b)
 magnitude_order a b f g y z =
     elim (ranked (length a) (length b)) [

@@ -6,13 +6,16 @@ use Rattle.std.specs.declared.cmp.Ordering.{Ordering}
 use Rattle.std.specs.declared.cmp.Ordering.TheVariants.{Equal}
 use Rattle.std.proofs.lemmas.Bool.{cases_lt, le-leb, lt-leb}
 use Rattle.dkv_base.specs.State.{key_cmp}
+use Rattle.dkv_base.proofs.ByteLists.{below_tail}
+use Rattle.dkv_key.specs.declared.codes.TheConstants.{ZERO, LONG_POSITIVE, LONG_NEGATIVE, MAX_SHORT_BYTES}
 use Rattle.dkv_key.specs.declared.part.Part.{Part}
 use Rattle.dkv_key.specs.declared.part.Part.TheVariants as part
-use Rattle.dkv_key.specs.Parts.{IsInteger, IsWellFormed, IsPart, AreBytes, escaped, count_spelling, magnitude_spelling, double_bytes, spelling, number, value, kind, part_cmp}
+use Rattle.hex.specs.Hex.{IsBytes}
+use Rattle.dkv_key.specs.Parts.{IsInteger, IsWellFormed, IsPart, escaped, count_spelling, magnitude_spelling, double_bytes, spelling, number, integer, rank, part_cmp}
 use Rattle.dkv_key.specs.Reading.{MayFollow, Begins}
 use Rattle.dkv_key.proofs.Orders.{then_first, then_second, nat_less, nat_equal, nat_greater, ranked, ranked_alike, same_keys, key_cmp-equal, first_less, first_greater, same_length}
 use Rattle.dkv_key.proofs.Escapes.{escaped_order}
-use Rattle.dkv_key.proofs.Numbers.{bytes_tail, number_some, magnitude_order, positive_order, negative_order, negative_first, positive_last}
+use Rattle.dkv_key.proofs.Numbers.{number_some, magnitude_order, positive_order, negative_order, negative_first, positive_last}
 use Rattle.dkv_key.proofs.Doubles.{same_double, length-double_bytes}
 
 -- where two numbers differ, nothing behind them counts
@@ -30,17 +33,17 @@ apart_alone x y o ne =
       | inr more ↦ elim more [ inl e ↦ absurd (ne e) | inr gt ↦ rw (nat_greater x y gt) refl ]
     ]
 
-pub short_up : (n : ℕ) → n ≤ 8 → count_spelling false n ≡ (20 + n) ∷ []
-short_up n le = rw (le-leb n 8 le) refl
+pub short_up : (n : ℕ) → n ≤ MAX_SHORT_BYTES → count_spelling false n ≡ (ZERO + n) ∷ []
+short_up n le = rw (le-leb n MAX_SHORT_BYTES le) refl
 
-pub long_up : (n : ℕ) → 8 < n → count_spelling false n ≡ 29 ∷ n ∷ []
-long_up n lt = rw (lt-leb n 8 lt) refl
+pub long_up : (n : ℕ) → MAX_SHORT_BYTES < n → count_spelling false n ≡ LONG_POSITIVE ∷ n ∷ []
+long_up n lt = rw (lt-leb n MAX_SHORT_BYTES lt) refl
 
-pub short_down : (n : ℕ) → n ≤ 8 → count_spelling true n ≡ (20 - n) ∷ []
-short_down n le = rw (le-leb n 8 le) refl
+pub short_down : (n : ℕ) → n ≤ MAX_SHORT_BYTES → count_spelling true n ≡ (ZERO - n) ∷ []
+short_down n le = rw (le-leb n MAX_SHORT_BYTES le) refl
 
-pub long_down : (n : ℕ) → 8 < n → count_spelling true n ≡ 11 ∷ (255 - n) ∷ []
-long_down n lt = rw (lt-leb n 8 lt) refl
+pub long_down : (n : ℕ) → MAX_SHORT_BYTES < n → count_spelling true n ≡ LONG_NEGATIVE ∷ (255 - n) ∷ []
+long_down n lt = rw (lt-leb n MAX_SHORT_BYTES lt) refl
 
 -- more magnitude bytes of a positive number come later, and of a negative one earlier
 pub count_up : (n m : ℕ) (x y : List ℕ) → key_cmp (count_spelling false n ++ x) (count_spelling false m ++ y) ≡ ordering_then (nat_cmp n m) (key_cmp x y)
@@ -84,13 +87,13 @@ count_down n m x y f g =
     ]
 
 -- complemented bytes compare the other way round
-complement_order : (a b : List ℕ) → AreBytes a → AreBytes b → length a ≡ length b → key_cmp (map (λ c. 255 - c) a) (map (λ c. 255 - c) b) ≡ key_cmp b a
+complement_order : (a b : List ℕ) → IsBytes a → IsBytes b → length a ≡ length b → key_cmp (map (λ c. 255 - c) a) (map (λ c. 255 - c) b) ≡ key_cmp b a
 complement_order [] [] f g e = refl
 complement_order [] (y ∷ b) f g e = absurd (omega (arith, e))
 complement_order (x ∷ a) [] f g e = absurd (omega (arith, e))
 complement_order (x ∷ a) (y ∷ b) f g e =
     let first : nat_cmp (255 - x) (255 - y) ≡ nat_cmp y x = ranked_alike (255 - x) (255 - y) y x (λ lt. omega (arith, lt)) (λ is. omega (arith, is, f 0, g 0)) (λ gt. omega (arith, gt)) in
-    let rest = complement_order a b (bytes_tail x a f) (bytes_tail y b g) (omega (arith, e)) in
+    let rest = complement_order a b (below_tail x a f) (below_tail y b g) (omega (arith, e)) in
     (λ i. ordering_then (first i) (rest i))
 
 -- sizes decide, then the bytes of these sizes, and then what is behind them
@@ -127,8 +130,8 @@ pub count_head : (s : Bool) (n : ℕ) → (s ≡ true → 0 < n) → CountHead s
 count_head false n some = (up_head n).0
 count_head true n some = (down_head n (some refl)).0
 
-integer_order : (s t : Bool) (a b u v : List ℕ) → IsInteger s a → IsInteger t b → AreBytes a → AreBytes b
-    → key_cmp ((count_spelling s (length a) ++ magnitude_spelling s a) ++ u) ((count_spelling t (length b) ++ magnitude_spelling t b) ++ v) ≡ ordering_then (int_cmp (value s a) (value t b)) (key_cmp u v)
+integer_order : (s t : Bool) (a b u v : List ℕ) → IsInteger s a → IsInteger t b → IsBytes a → IsBytes b
+    → key_cmp ((count_spelling s (length a) ++ magnitude_spelling s a) ++ u) ((count_spelling t (length b) ++ magnitude_spelling t b) ++ v) ≡ ordering_then (int_cmp (integer s a) (integer t b)) (key_cmp u v)
 integer_order false false a b u v f g x y =
     (λ i. key_cmp (append_assoc (count_spelling false (length a)) a u i) (append_assoc (count_spelling false (length b)) b v i))
     ∙ count_up (length a) (length b) (a ++ u) (b ++ v)
@@ -156,7 +159,7 @@ integer_order false true a b u v f g x y =
     ∙ first_greater h.0.first k.0.first ((h.0.rest ++ a) ++ u) ((k.0.rest ++ magnitude_spelling true b) ++ v) (omega (arith, h.1, k.1))
     ∙ ap (λ o. ordering_then o (key_cmp u v)) (sym (positive_last (number a) (number b) (number_some b g.first (g.sign refl))))
 
--- the first bytes of a kind begin here, and end before those of the next kind
+-- the first bytes of a rank begin here, and end before those of the next rank
 unfoldable pub bottom : ℕ → ℕ
 bottom zero = 1
 bottom (suc zero) = 2
@@ -189,8 +192,8 @@ pub record Head (p : Part) : Type 0 where
   pub first : ℕ
   pub rest : List ℕ
   pub is : spelling p ≡ first ∷ rest
-  pub low : bottom (kind p) ≤ first
-  pub high : first < bottom (suc (kind p))
+  pub low : bottom (rank p) ≤ first
+  pub high : first < bottom (suc (rank p))
   pub some : 0 < first
   pub below : first < 40
 
@@ -205,20 +208,20 @@ head_of (part.Double n) f = record { first = 33; rest = double_bytes n; is = ref
 head_of (part.Bool false) f = record { first = 38; rest = []; is = refl; low = omega arith; high = omega arith; some = omega arith; below = omega arith }
 head_of (part.Bool true) f = record { first = 39; rest = []; is = refl; low = omega arith; high = omega arith; some = omega arith; below = omega arith }
 
-kind_order : (p q : Part) → IsWellFormed p → IsWellFormed q → kind p ≢ kind q → (s t : List ℕ) → key_cmp (spelling p ++ s) (spelling q ++ t) ≡ ordering_then (nat_cmp (kind p) (kind q)) (key_cmp s t)
-kind_order p q f g ne s t =
+rank_order : (p q : Part) → IsWellFormed p → IsWellFormed q → rank p ≢ rank q → (s t : List ℕ) → key_cmp (spelling p ++ s) (spelling q ++ t) ≡ ordering_then (nat_cmp (rank p) (rank q)) (key_cmp s t)
+rank_order p q f g ne s t =
     let h = head_of p f in
     let k = head_of q g in
     (λ i. key_cmp (h.is i ++ s) (k.is i ++ t))
-    ∙ elim (ranked (kind p) (kind q)) [
-      | inl lt ↦ first_less h.first k.first (h.rest ++ s) (k.rest ++ t) (omega (arith, h.high, k.low, bottom_apart (kind p) (kind q) lt)) ∙ sym (nat_less (kind p) (kind q) lt)
+    ∙ elim (ranked (rank p) (rank q)) [
+      | inl lt ↦ first_less h.first k.first (h.rest ++ s) (k.rest ++ t) (omega (arith, h.high, k.low, bottom_apart (rank p) (rank q) lt)) ∙ sym (nat_less (rank p) (rank q) lt)
       | inr more ↦
           elim more [
             | inl e ↦ absurd (ne e)
-            | inr gt ↦ first_greater h.first k.first (h.rest ++ s) (k.rest ++ t) (omega (arith, k.high, h.low, bottom_apart (kind q) (kind p) gt)) ∙ sym (nat_greater (kind p) (kind q) gt)
+            | inr gt ↦ first_greater h.first k.first (h.rest ++ s) (k.rest ++ t) (omega (arith, k.high, h.low, bottom_apart (rank q) (rank p) gt)) ∙ sym (nat_greater (rank p) (rank q) gt)
           ]
     ]
-    ∙ sym (apart_alone (kind p) (kind q) (key_cmp s t) ne)
+    ∙ sym (apart_alone (rank p) (rank q) (key_cmp s t) ne)
 
 ended : (a s : List ℕ) → (escaped a ++ 0 ∷ []) ++ s ≡ escaped a ++ 0 ∷ s
 ended a s = append_assoc (escaped a) (0 ∷ []) s
@@ -233,10 +236,10 @@ part_order (part.Bool false) (part.Bool false) f g s t x y = refl
 part_order (part.Bool false) (part.Bool true) f g s t x y = refl
 part_order (part.Bool true) (part.Bool false) f g s t x y = refl
 part_order (part.Bool true) (part.Bool true) f g s t x y = refl
-part_order p q f g s t x y = kind_order p q f.well_formed g.well_formed (λ e. omega (arith, e)) s t
+part_order p q f g s t x y = rank_order p q f.well_formed g.well_formed (λ e. omega (arith, e)) s t
 
 -- parts that compare equal are equal
-same_integer : (s t : Bool) (a b : List ℕ) → IsInteger s a → IsInteger t b → AreBytes a → AreBytes b → int_cmp (value s a) (value t b) ≡ Equal → part.Int s a ≡ part.Int t b
+same_integer : (s t : Bool) (a b : List ℕ) → IsInteger s a → IsInteger t b → IsBytes a → IsBytes b → int_cmp (integer s a) (integer t b) ≡ Equal → part.Int s a ≡ part.Int t b
 same_integer false false a b f g x y e =
     ap (part.Int false) (same_keys a b (then_second (nat_cmp (length a) (length b)) (key_cmp a b) (sym (positive_order (number a) (number b) ∙ magnitude_order a b x y f.first g.first) ∙ e)))
 same_integer true true a b f g x y e =
@@ -258,5 +261,5 @@ same_part p q f g e = absurd (cc e)
 -- one part begins some bytes
 pub one_part : (bytes : List ℕ) (p q : Part) (r s : List ℕ) → Begins bytes p r → Begins bytes q s → (p ≡ q) × (r ≡ s)
 one_part bytes p q r s f g =
-    let same = sym (part_order p q f.is_part g.is_part r s f.follows g.follows) ∙ key_cmp-equal _ _ (sym f.parts ∙ g.parts) in
+    let same = sym (part_order p q f.is_part g.is_part r s f.follows g.follows) ∙ key_cmp-equal _ _ (sym f.spelled ∙ g.spelled) in
     (same_part p q f.is_part g.is_part (then_first (part_cmp p q) (key_cmp r s) same), same_keys r s (then_second (part_cmp p q) (key_cmp r s) same))

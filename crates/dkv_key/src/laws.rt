@@ -1,12 +1,12 @@
-ghost use Rattle.std.specs.Prelude.{◌≡◌, ◌≢◌, ◌<◌, ◌^◌, ◌↔◌, ℕ, List, [], ◌∷◌, ◌++◌, IsTrue};
+//! The laws of keys and versionstamps, each proved on a function of no arguments.
+ghost use Rattle.std.specs.Prelude.{◌≡◌, ◌<◌, ◌^◌, ◌↔◌, ℕ, List, IsTrue};
 ghost use Rattle.std.specs.Ordering.{nat_cmp};
-ghost use Rattle.dkv_base.specs.State.{key_cmp};
-ghost use Rattle.dkv_base.specs.Stamps.{stamp, hex_digits};
-ghost use Rattle.dkv_base.specs.Stamps.{suffix as suffix_bytes};
+ghost use Rattle.dkv_base.specs.State.{is_between, key_cmp};
+ghost use Rattle.dkv_base.specs.Stamps.{stamp, hex_digits, suffix};
 ghost use Rattle.dkv_key.specs.declared.part.Part.{Part};
 ghost use Rattle.dkv_key.specs.declared.part.Part.TheVariants.{Text};
-ghost use Rattle.dkv_key.specs.Parts.{AreParts, spelling, key, parts_cmp};
-ghost use Rattle.dkv_key.specs.Reading.{FirstFault, is_between};
+ghost use Rattle.dkv_key.specs.Parts.{AreParts, HasMore, spelling, key, parts_cmp, range_start, range_end};
+ghost use Rattle.dkv_key.specs.Reading.{FirstFault};
 
 /// Two part lists with one spelling are equal.
 pub fn one_list_of_parts()
@@ -15,18 +15,20 @@ pub fn one_list_of_parts()
 
 /// The byte order of spellings is the order of part lists.
 pub fn keys_order_as_parts()
-    ensures { (ps qs : List Part) → AreParts ps → AreParts qs → key_cmp (key ps) (key qs) ≡ parts_cmp ps qs }
+    ensures { (ps qs : List Part) → AreParts ps → AreParts qs
+        → key_cmp (key ps) (key qs) ≡ parts_cmp ps qs }
 {}
 
 /// Bytes have one first place where no part begins.
 pub fn one_first_fault()
-    ensures { (at other : ℕ) (bytes : List ℕ) → FirstFault at bytes → FirstFault other bytes → at ≡ other }
+    ensures { (at other : ℕ) (bytes : List ℕ)
+        → FirstFault at bytes → FirstFault other bytes → at ≡ other }
 {}
 
-/// From a key and 00 on, and before that key and FF, are just the keys with its parts and at least one more.
+/// The range of a prefix holds just the keys with its parts and at least one more.
 pub fn range_holds_longer_keys()
     ensures { (ps qs : List Part) → AreParts ps → AreParts qs
-        → IsTrue (is_between (key ps ++ 0 ∷ []) (key ps ++ 255 ∷ []) (key qs)) ↔ ((more : List Part) × (more ≢ []) × (qs ≡ ps ++ more)) }
+        → IsTrue (is_between (range_start (key ps)) (range_end (key ps)) (key qs)) ↔ HasMore ps qs }
 {}
 
 /// Versionstamps order as commit numbers do.
@@ -36,5 +38,5 @@ pub fn stamps_order_as_numbers()
 
 /// What a versionstamped key ends with is a text part.
 pub fn suffix_is_a_text()
-    ensures { (n : ℕ) → suffix_bytes n ≡ spelling (Text (hex_digits (stamp n))) }
+    ensures { (n : ℕ) → suffix n ≡ spelling (Text (hex_digits (stamp n))) }
 {}

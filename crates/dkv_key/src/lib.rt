@@ -6,6 +6,7 @@
 //! that have more parts behind the prefix.
 #![tactic(auto)]
 
+pub mod codes;
 mod laws;
 mod part;
 mod reading;
@@ -20,5 +21,5 @@ pub use laws::{
 };
 pub use part::{KeyError, Part};
 pub use reading::decode;
-pub use stamps::{stamp_hex, stamp_of, suffix};
+pub use stamps::{STAMP_DIGITS, SUFFIX_BYTES, stamp_hex, stamp_of, suffix};
 pub use writing::{encode, prefix_range};

@@ -1,4 +1,6 @@
+//! The parts of a key, and why bytes are no key.
 use dkv_base::{Bytes, NoMemory};
+use thiserror::Error;
 
 /// A part of a key.
 ///
@@ -14,11 +16,13 @@ pub enum Part {
 }
 
 /// Why no parts were read.
-#[derive(Clone, Copy, Debug, PartialEq, Eq)]
+#[derive(Clone, Copy, Debug, Error, PartialEq, Eq)]
 pub enum KeyError {
     /// No part begins at this place; places count bytes from 0.
+    #[error("no part of a key begins at byte {at}")]
     NotAKey { at: u64 },
     /// The allocator had no room.
+    #[error("no memory")]
     NoMemory,
 }
 

@@ -1,8 +1,13 @@
-ghost use Rattle.std.specs.Prelude.{◌≡◌, ◌<◌, [], ◌∷◌, ◌++◌, List, ℕ, true, false, IsTrue, length, IfOk, IfErr, IfSome, IfNone};
+// How parts are read.
+ghost use Rattle.std.specs.Prelude.{◌≡◌, ◌<◌, [], ◌∷◌, ◌++◌, ℕ, true, false, IsTrue, length, IfOk, IfErr, IfSome, IfNone};
 ghost use Rattle.dkv_key.specs.Parts.{HasNoLeadingZero, escaped, count_spelling, double_bytes};
-ghost use Rattle.dkv_key.specs.Reading.{IsKey, FirstFault, EndsHere, HasText, NoText, HasMagnitude, NoMagnitude, FindsPart};
+ghost use Rattle.dkv_key.specs.Reading.{IsKey, NoKey, FirstFault, EndsHere, HasText, NoText, HasMagnitude, NoMagnitude, FindsPart};
 ghost use Rattle.dkv_key.specs.declared.part.KeyError.TheVariants.{NotAKey};
 
+use crate::codes::{
+    BYTES, DOUBLE, DOUBLE_BYTES, ESCAPE, FALSE, LONG_NEGATIVE, LONG_POSITIVE, MAX_SHORT_BYTES,
+    SHORT_NEGATIVE, SHORT_POSITIVE, TEXT, TRUE, ZERO,
+};
 use crate::writing::{put, put_magnitude};
 use crate::{KeyError, Part};
 use dkv_base::{Bytes, NoMemory, Run};
@@ -20,7 +25,7 @@ fn byte_of(bytes: &[u8]) -> Option<(u8, &[u8])>
     if *byte != 0 {
         return Some((*byte, behind));
     }
-    let [255, behind @ ..] = behind else {
+    let [ESCAPE, behind @ ..] = behind else {
         return None;
     };
     Some((0, behind))
@@ -43,14 +48,12 @@ fn text_of(alloc: Global, bytes: &[u8]) -> Result<Option<(Bytes, &[u8])>, NoMemo
     }
 }
 
+// Whether the first byte is 0, where there is one.
 fn starts_with_zero(bytes: &[u8]) -> bool
     ensures zero { IsTrue result → HasNoLeadingZero bytes.now → ⊥ }
     ensures none { result ≡ false → HasNoLeadingZero bytes.now }
 {
-    match bytes {
-        [] => false,
-        [first, ..] => *first == 0,
-    }
+    matches!(bytes, [0, ..])
 }
 
 // So many magnitude bytes, and what comes behind them.
@@ -60,14 +63,13 @@ fn magnitude_of(
     count: u8,
     bytes: &[u8],
 ) -> Result<Option<(Bytes, &[u8])>, NoMemory>
-    ensures found { IfOk result (λ found. IfSome found (λ x. HasMagnitude negative count bytes.now x.0 x.1.now)) }
+    ensures found { IfOk result (λ found.
+        IfSome found (λ x. HasMagnitude negative count bytes.now x.0 x.1.now)) }
     ensures none { IfOk result (λ found. IfNone found (NoMagnitude negative count bytes.now)) }
 {
-    let count = count as usize;
-    if bytes.len() < count {
+    let Some((spelled, rest)) = bytes.split_at_checked(count as usize) else {
         return Ok(None);
-    }
-    let (spelled, rest) = bytes.split_at(count);
+    };
     let mut magnitude = Vec::new(alloc);
     put_magnitude(&mut magnitude, negative, spelled)?;
     if starts_with_zero(magnitude.as_slice()) {
@@ -79,15 +81,10 @@ fn magnitude_of(
 // The pattern of a double, and what comes behind it.
 fn double_of(bytes: &[u8]) -> Option<(u64, &[u8])>
     ensures found { IfSome result (λ x. bytes.now ≡ double_bytes x.0 ++ x.1.now) }
-    ensures none { IfNone result (length bytes.now < 8) }
+    ensures none { IfNone result (length bytes.now < DOUBLE_BYTES) }
 {
-    if bytes.len() < 8 {
-        return None;
-    }
-    let (front, rest) = bytes.split_at(8);
-    let stored = u64::from_be_bytes([
-        front[0], front[1], front[2], front[3], front[4], front[5], front[6], front[7],
-    ]);
+    let (front, rest) = bytes.split_first_chunk::<DOUBLE_BYTES>()?;
+    let stored = u64::from_be_bytes(*front);
     let pattern = if stored < 1 << 63 {
         u64::MAX - stored
     } else {
@@ -96,9 +93,9 @@ fn double_of(bytes: &[u8]) -> Option<(u64, &[u8])>
     Some((pattern, rest))
 }
 
-// What follows 01.
+// What follows the code BYTES.
 fn bytes_part(alloc: Global, body: &[u8]) -> Result<Option<(Part, &[u8])>, NoMemory>
-    ensures { IfOk result (FindsPart (1 ∷ body.now)) }
+    ensures { IfOk result (FindsPart (BYTES ∷ body.now)) }
 {
     match text_of(alloc, body)? {
         None => Ok(None),
@@ -106,9 +103,9 @@ fn bytes_part(alloc: Global, body: &[u8]) -> Result<Option<(Part, &[u8])>, NoMem
     }
 }
 
-// What follows 02.
+// What follows the code TEXT.
 fn text_part(alloc: Global, body: &[u8]) -> Result<Option<(Part, &[u8])>, NoMemory>
-    ensures { IfOk result (FindsPart (2 ∷ body.now)) }
+    ensures { IfOk result (FindsPart (TEXT ∷ body.now)) }
 {
     match text_of(alloc, body)? {
         None => Ok(None),
@@ -141,29 +138,33 @@ fn integer_part(
     }
 }
 
-// What follows 1D.
+// What follows the code LONG_POSITIVE.
 fn long_positive_part(alloc: Global, body: &[u8]) -> Result<Option<(Part, &[u8])>, NoMemory>
-    ensures { IfOk result (FindsPart (29 ∷ body.now)) }
+    ensures { IfOk result (FindsPart (LONG_POSITIVE ∷ body.now)) }
 {
     match body {
-        [count @ 9.., body @ ..] => integer_part(alloc, false, *count, body),
+        [count, body @ ..] if *count > MAX_SHORT_BYTES => {
+            integer_part(alloc, false, *count, body)
+        }
         _ => Ok(None),
     }
 }
 
-// What follows 0B.
+// What follows the code LONG_NEGATIVE.
 fn long_negative_part(alloc: Global, body: &[u8]) -> Result<Option<(Part, &[u8])>, NoMemory>
-    ensures { IfOk result (FindsPart (11 ∷ body.now)) }
+    ensures { IfOk result (FindsPart (LONG_NEGATIVE ∷ body.now)) }
 {
     match body {
-        [count @ ..=246, body @ ..] => integer_part(alloc, true, 255 - *count, body),
+        [count, body @ ..] if u8::MAX - *count > MAX_SHORT_BYTES => {
+            integer_part(alloc, true, u8::MAX - *count, body)
+        }
         _ => Ok(None),
     }
 }
 
-// What follows 21.
+// What follows the code DOUBLE.
 fn double_part(body: &[u8]) -> Option<(Part, &[u8])>
-    ensures { FindsPart (33 ∷ body.now) result }
+    ensures { FindsPart (DOUBLE ∷ body.now) result }
 {
     match double_of(body) {
         None => None,
@@ -179,15 +180,15 @@ fn part_of(alloc: Global, bytes: &[u8]) -> Result<Option<(Part, &[u8])>, NoMemor
         return Ok(None);
     };
     match *first {
-        1 => bytes_part(alloc, body),
-        2 => text_part(alloc, body),
-        11 => long_negative_part(alloc, body),
-        12..=19 => integer_part(alloc, true, 20 - *first, body),
-        20..=28 => integer_part(alloc, false, *first - 20, body),
-        29 => long_positive_part(alloc, body),
-        33 => Ok(double_part(body)),
-        38 => Ok(Some((Part::Bool(false), body))),
-        39 => Ok(Some((Part::Bool(true), body))),
+        BYTES => bytes_part(alloc, body),
+        TEXT => text_part(alloc, body),
+        LONG_NEGATIVE => long_negative_part(alloc, body),
+        SHORT_NEGATIVE..ZERO => integer_part(alloc, true, ZERO - *first, body),
+        ZERO..=SHORT_POSITIVE => integer_part(alloc, false, *first - ZERO, body),
+        LONG_POSITIVE => long_positive_part(alloc, body),
+        DOUBLE => Ok(double_part(body)),
+        FALSE => Ok(Some((Part::Bool(false), body))),
+        TRUE => Ok(Some((Part::Bool(true), body))),
         _ => Ok(None),
     }
 }
@@ -196,7 +197,8 @@ fn part_of(alloc: Global, bytes: &[u8]) -> Result<Option<(Part, &[u8])>, NoMemor
 pub fn decode(alloc: Global, key: &[u8]) -> Result<Run<Part>, KeyError>
     ensures parts { IfOk result (λ parts. IsKey parts key.now) }
     // A refusal comes only where the bytes are no key, at the first place where no part begins.
-    ensures refused { IfErr result (λ e. (at : ℕ) → e ≡ NotAKey at → FirstFault at key.now × ((ps : List Part) → IsKey ps key.now → ⊥)) }
+    ensures refused { IfErr result (λ e.
+        (at : ℕ) → e ≡ NotAKey at → FirstFault at key.now × NoKey key.now) }
 {
     let mut parts = Run::new(alloc);
     let mut rest = key;
@@ -206,10 +208,8 @@ pub fn decode(alloc: Global, key: &[u8]) -> Result<Run<Part>, KeyError>
                 at: (key.len() - rest.len()) as u64,
             });
         };
-        match parts.push(part) {
-            Ok(()) => rest = behind,
-            Err(_) => return Err(KeyError::NoMemory),
-        }
+        parts.add(part)?;
+        rest = behind;
     }
     Ok(parts)
 }

@@ -1,138 +1,118 @@
+//! Keys and their parts, in bytes that FoundationDB's tuple layer spells.
 use crate::{KeyError, Part, decode, encode, prefix_range, stamp_hex, stamp_of, suffix};
 use std::alloc::Global;
 use std::process::Abort;
 use std::test::Fail;
 
-#[derive(Clone, Copy)]
-enum Sample<'a> {
-    Bytes(&'a [u8]),
-    Text(&'a [u8]),
-    Int(bool, &'a [u8]),
-    Double(u64),
-    Bool(bool),
+// A word and bytes, these as hexadecimal digits.
+fn worded(alloc: Global, word: &str, bytes: &[u8]) -> Result<String, Fail> {
+    let digits = hex::encode(alloc, bytes)?;
+    Ok(format!(in alloc; "{word}{digits}")?)
 }
 
-fn is_sample(part: &Part, sample: &Sample) -> bool {
+// A part in words.
+fn words_of(alloc: Global, part: &Part) -> Result<String, Fail> {
     match part {
-        Part::Bytes(bytes) => matches!(sample, Sample::Bytes(b) if bytes.as_slice() == *b),
-        Part::Text(text) => matches!(sample, Sample::Text(t) if text.as_slice() == *t),
+        Part::Bytes(bytes) => worded(alloc, "bytes ", bytes.as_slice()),
+        Part::Text(text) => worded(alloc, "text ", text.as_slice()),
         Part::Int {
-            negative,
+            negative: true,
             magnitude,
-        } => matches!(sample, Sample::Int(n, m) if negative == n && magnitude.as_slice() == *m),
-        Part::Double(pattern) => matches!(sample, Sample::Double(p) if pattern == p),
-        Part::Bool(b) => matches!(sample, Sample::Bool(c) if b == c),
+        } => worded(alloc, "-", magnitude.as_slice()),
+        Part::Int {
+            negative: false,
+            magnitude,
+        } => worded(alloc, "+", magnitude.as_slice()),
+        Part::Double(pattern) => worded(alloc, "double ", &pattern.to_be_bytes()),
+        Part::Bool(true) => worded(alloc, "true", &[]),
+        Part::Bool(false) => worded(alloc, "false", &[]),
     }
 }
 
-// The key reads as the samples, and is written again.
-fn check_key(rt: &impl Abort, alloc: Global, key: &[u8], samples: &[Sample]) {
-    let parts = decode(alloc, key);
-    let Ok(parts) = parts else {
-        panic!(rt; "{key:?} is refused");
-    };
-    assert_eq!(rt; parts.as_slice().len(), samples.len(), "{key:?}");
-    for (part, sample) in parts.as_slice().iter().zip(samples) {
-        assert!(rt; is_sample(part, sample), "{key:?} has {part:?}");
+// The parts in words, a point behind each.
+fn all_words(alloc: Global, parts: &[Part]) -> Result<String, Fail> {
+    let mut words = String::new(alloc);
+    for part in parts {
+        words.push_str(words_of(alloc, part)?.as_str())?;
+        words.push_str(".")?;
     }
-    let Ok(again) = encode(alloc, parts.as_slice()) else {
-        panic!(rt; "no memory for {key:?}");
-    };
-    assert_eq!(rt; again.as_slice(), key);
+    Ok(words)
 }
 
+// The key with these digits reads as the parts in these words, and is written again.
+fn check_key(rt: &impl Abort, alloc: Global, digits: &str, words: &str) -> Result<(), Fail> {
+    let key = hex::decode(alloc, digits)?;
+    let parts = decode(alloc, key.as_slice())?;
+    assert_eq!(rt;
+        all_words(alloc, parts.as_slice())?.as_str(),
+        words,
+        "{digits}"
+    );
+    let again = encode(alloc, parts.as_slice())?;
+    assert_eq!(rt; again.as_slice(), key.as_slice(), "{digits}");
+    Ok(())
+}
+
+// By rising value; the digits of keys compare as their bytes do.
 #[test]
-fn a_key_is_the_spellings_of_its_parts(rt: HostRuntime) {
-    let rows: [(&[u8], &[Sample]); 28] = [
-        (&[], &[]),
-        (&[0x02, 0x61, 0x00], &[Sample::Text(b"a")]),
-        (&[0x01, 0x00, 0xff, 0x00], &[Sample::Bytes(&[0])]),
-        (&[0x01, 0x00], &[Sample::Bytes(&[])]),
-        (
-            &[0x01, 0x61, 0x00, 0xff, 0x62, 0x00, 0xff, 0x00, 0xff, 0x00],
-            &[Sample::Bytes(&[0x61, 0, 0x62, 0, 0])],
-        ),
-        (
-            &[0x01, 0x00, 0xff, 0xff, 0x00],
-            &[Sample::Bytes(&[0, 0xff])],
-        ),
-        (
-            &[0x02, 0x00, 0xff, 0xc3, 0xa9, 0x00],
-            &[Sample::Text(&[0, 0xc3, 0xa9])],
-        ),
-        (&[0x02, 0x61, 0x00, 0xff, 0x00], &[Sample::Text(b"a\0")]),
-        (&[0x14], &[Sample::Int(false, &[])]),
-        (&[0x15, 0x01], &[Sample::Int(false, &[1])]),
-        (&[0x15, 0xff], &[Sample::Int(false, &[255])]),
-        (&[0x16, 0x01, 0x00], &[Sample::Int(false, &[1, 0])]),
-        (&[0x13, 0xfe], &[Sample::Int(true, &[1])]),
-        (&[0x13, 0x00], &[Sample::Int(true, &[255])]),
-        (&[0x12, 0xfe, 0xff], &[Sample::Int(true, &[1, 0])]),
-        (
-            &[0x1c, 1, 2, 3, 4, 5, 6, 7, 8],
-            &[Sample::Int(false, &[1, 2, 3, 4, 5, 6, 7, 8])],
-        ),
-        (
-            &[0x1d, 9, 1, 2, 3, 4, 5, 6, 7, 8, 9],
-            &[Sample::Int(false, &[1, 2, 3, 4, 5, 6, 7, 8, 9])],
-        ),
-        (
-            &[0x0c, 254, 253, 252, 251, 250, 249, 248, 247],
-            &[Sample::Int(true, &[1, 2, 3, 4, 5, 6, 7, 8])],
-        ),
-        (
-            &[0x0b, 246, 254, 253, 252, 251, 250, 249, 248, 247, 246],
-            &[Sample::Int(true, &[1, 2, 3, 4, 5, 6, 7, 8, 9])],
-        ),
-        (&[0x21, 0x80, 0, 0, 0, 0, 0, 0, 0], &[Sample::Double(0)]),
-        (
-            &[0x21, 0x7f, 0xff, 0xff, 0xff, 0xff, 0xff, 0xff, 0xff],
-            &[Sample::Double(0x8000_0000_0000_0000)],
-        ),
-        (
-            &[0x21, 0xff, 0xf0, 0, 0, 0, 0, 0, 0],
-            &[Sample::Double(0x7ff0_0000_0000_0000)],
-        ),
-        (
-            &[0x21, 0x00, 0x0f, 0xff, 0xff, 0xff, 0xff, 0xff, 0xff],
-            &[Sample::Double(0xfff0_0000_0000_0000)],
-        ),
-        (
-            &[0x21, 0xff, 0xf8, 0, 0, 0, 0, 0, 0],
-            &[Sample::Double(0x7ff8_0000_0000_0000)],
-        ),
-        (
-            &[0x21, 0x00, 0x07, 0xff, 0xff, 0xff, 0xff, 0xff, 0xfe],
-            &[Sample::Double(0xfff8_0000_0000_0001)],
-        ),
-        (&[0x26], &[Sample::Bool(false)]),
-        (
-            &[0x02, 0x75, 0x73, 0x65, 0x72, 0x73, 0x00, 0x27],
-            &[Sample::Text(b"users"), Sample::Bool(true)],
-        ),
-        (
-            &[0x01, 0x00, 0x01, 0x00, 0xff, 0x00, 0x14],
-            &[
-                Sample::Bytes(&[]),
-                Sample::Bytes(&[0]),
-                Sample::Int(false, &[]),
-            ],
-        ),
-    ];
-    for (key, samples) in &rows {
-        check_key(&rt, rt.alloc(), key, samples);
+fn a_key_is_the_spellings_of_its_parts_and_keeps_their_order(rt: HostRuntime) -> Result<(), Fail> {
+    let mut before = b"".as_slice();
+    for (digits, words) in [
+        ("", ""),
+        ("0100", "bytes ."),
+        ("01000100ff0014", "bytes .bytes 00.+."),
+        ("010026", "bytes .false."),
+        ("0100ff00", "bytes 00."),
+        ("0100ff0100", "bytes 0001."),
+        ("0100ffff00", "bytes 00ff."),
+        ("010100", "bytes 01."),
+        ("016100ff6200ff00ff00", "bytes 6100620000."),
+        ("01ff00", "bytes ff."),
+        ("0200", "text ."),
+        ("0200ffc3a900", "text 00c3a9."),
+        ("026100", "text 61."),
+        ("0261000100", "text 61.bytes ."),
+        ("02610027", "text 61.true."),
+        ("026100ff00", "text 6100."),
+        ("02616200", "text 6162."),
+        ("0275736572730027", "text 7573657273.true."),
+        ("0bf6fefdfcfbfaf9f8f7f6", "-010203040506070809."),
+        ("0cfefdfcfbfaf9f8f7", "-0102030405060708."),
+        ("12feff", "-0100."),
+        ("1300", "-ff."),
+        ("13fe", "-01."),
+        ("14", "+."),
+        ("1501", "+01."),
+        ("1502", "+02."),
+        ("15ff", "+ff."),
+        ("160100", "+0100."),
+        ("1c0102030405060708", "+0102030405060708."),
+        ("1d09010203040506070809", "+010203040506070809."),
+        ("210007fffffffffffe", "double fff8000000000001."),
+        ("21000fffffffffffff", "double fff0000000000000."),
+        ("217fffffffffffffff", "double 8000000000000000."),
+        ("218000000000000000", "double 0000000000000000."),
+        ("21fff0000000000000", "double 7ff0000000000000."),
+        ("21fff8000000000000", "double 7ff8000000000000."),
+        ("26", "false."),
+        ("27", "true."),
+    ] {
+        check_key(&rt, rt.alloc(), digits, words)?;
+        assert!(rt; digits.is_empty() || before < digits.as_bytes(), "{digits}");
+        before = digits.as_bytes();
     }
+    Ok(())
 }
 
-// The key of the integer with these bytes for the first and for each other magnitude byte.
+// The key of an integer: its head in digits, its first byte and each other one, and how many bytes there are.
 fn integer_key(
     alloc: Global,
-    head: &[u8],
+    head: &str,
     first: u8,
     other: u8,
     count: usize,
 ) -> Result<Vec<u8>, Fail> {
-    let mut key = Vec::from_slice(alloc, head)?;
+    let mut key = hex::decode(alloc, head)?;
     key.push(first)?;
     for _ in 1..count {
         key.push(other)?;
@@ -140,132 +120,122 @@ fn integer_key(
     Ok(key)
 }
 
+// Of a key of one integer: whether it is negative, how many bytes it has, the first and the last of them.
+fn integer_of(alloc: Global, key: &[u8]) -> Result<(bool, usize, u8, u8), Fail> {
+    let parts = decode(alloc, key)?;
+    let [
+        Part::Int {
+            negative,
+            magnitude,
+        },
+    ] = parts.as_slice()
+    else {
+        return Ok((false, 0, 0, 0));
+    };
+    let bytes = magnitude.as_slice();
+    let first = bytes.first().copied().unwrap_or(0);
+    let last = bytes.last().copied().unwrap_or(0);
+    Ok((*negative, bytes.len(), first, last))
+}
+
+// By rising value: what is before the bytes, the first spelled byte, each other one, and the integer.
 #[test]
 fn integers_of_each_size_are_read_and_keep_their_order(rt: HostRuntime) -> Result<(), Fail> {
-    // By rising value: what is before the magnitude, its first byte, each other byte, how many, and the spelled bytes.
-    let rows: [(bool, &[u8], u8, u8, usize, u8, u8); 20] = [
-        (true, &[0x0b, 0x00], 255, 255, 255, 0x00, 0x00),
-        (true, &[0x0b, 0x00], 1, 0, 255, 0xfe, 0xff),
-        (true, &[0x0b, 0x01], 255, 255, 254, 0x00, 0x00),
-        (true, &[0x0b, 0xf5], 1, 0, 10, 0xfe, 0xff),
-        (true, &[0x0b, 0xf6], 255, 255, 9, 0x00, 0x00),
-        (true, &[0x0b, 0xf6], 1, 0, 9, 0xfe, 0xff),
-        (true, &[0x0c], 255, 255, 8, 0x00, 0x00),
-        (true, &[0x0c], 1, 0, 8, 0xfe, 0xff),
-        (true, &[0x0d], 255, 255, 7, 0x00, 0x00),
-        (true, &[0x13], 1, 0, 1, 0xfe, 0xff),
-        (false, &[0x15], 1, 0, 1, 1, 0),
-        (false, &[0x1b], 255, 255, 7, 255, 255),
-        (false, &[0x1c], 1, 0, 8, 1, 0),
-        (false, &[0x1c], 255, 255, 8, 255, 255),
-        (false, &[0x1d, 0x09], 1, 0, 9, 1, 0),
-        (false, &[0x1d, 0x09], 255, 255, 9, 255, 255),
-        (false, &[0x1d, 0x0a], 1, 0, 10, 1, 0),
-        (false, &[0x1d, 0xfe], 255, 255, 254, 255, 255),
-        (false, &[0x1d, 0xff], 1, 0, 255, 1, 0),
-        (false, &[0x1d, 0xff], 255, 255, 255, 255, 255),
-    ];
     let mut before = Vec::new(rt.alloc());
-    for (negative, head, first, other, count, spelled_first, spelled_other) in &rows {
-        let magnitude = integer_key(rt.alloc(), &[], *first, *other, *count)?;
-        let key = integer_key(rt.alloc(), head, *spelled_first, *spelled_other, *count)?;
-        check_key(
-            &rt,
-            rt.alloc(),
-            key.as_slice(),
-            &[Sample::Int(*negative, magnitude.as_slice())],
-        );
-        assert!(rt; before.as_slice() < key.as_slice(), "{key:?}");
+    for (head, first, other, integer) in [
+        ("0b00", 0x00, 0x00, (true, 255, 255, 255)),
+        ("0b00", 0xfe, 0xff, (true, 255, 1, 0)),
+        ("0b01", 0x00, 0x00, (true, 254, 255, 255)),
+        ("0bf5", 0xfe, 0xff, (true, 10, 1, 0)),
+        ("0bf6", 0x00, 0x00, (true, 9, 255, 255)),
+        ("0bf6", 0xfe, 0xff, (true, 9, 1, 0)),
+        ("0c", 0x00, 0x00, (true, 8, 255, 255)),
+        ("0c", 0xfe, 0xff, (true, 8, 1, 0)),
+        ("0d", 0x00, 0x00, (true, 7, 255, 255)),
+        ("13", 0xfe, 0xff, (true, 1, 1, 1)),
+        ("15", 0x01, 0x00, (false, 1, 1, 1)),
+        ("1b", 0xff, 0xff, (false, 7, 255, 255)),
+        ("1c", 0x01, 0x00, (false, 8, 1, 0)),
+        ("1c", 0xff, 0xff, (false, 8, 255, 255)),
+        ("1d09", 0x01, 0x00, (false, 9, 1, 0)),
+        ("1d09", 0xff, 0xff, (false, 9, 255, 255)),
+        ("1d0a", 0x01, 0x00, (false, 10, 1, 0)),
+        ("1dfe", 0xff, 0xff, (false, 254, 255, 255)),
+        ("1dff", 0x01, 0x00, (false, 255, 1, 0)),
+        ("1dff", 0xff, 0xff, (false, 255, 255, 255)),
+    ] {
+        let key = integer_key(rt.alloc(), head, first, other, integer.1)?;
+        assert_eq!(rt; integer_of(rt.alloc(), key.as_slice())?, integer, "{head}");
+        assert!(rt; before.as_slice() < key.as_slice(), "{head}");
         before = key;
     }
     Ok(())
 }
 
-#[test]
-fn keys_that_rise_by_value_rise_by_their_bytes(rt: HostRuntime) {
-    let rows: [&[u8]; 22] = [
-        &[],
-        &[0x01, 0x00],
-        &[0x01, 0x00, 0x26],
-        &[0x01, 0x00, 0xff, 0x00],
-        &[0x01, 0x00, 0xff, 0x01, 0x00],
-        &[0x01, 0x01, 0x00],
-        &[0x01, 0xff, 0x00],
-        &[0x02, 0x00],
-        &[0x02, 0x61, 0x00],
-        &[0x02, 0x61, 0x00, 0x01, 0x00],
-        &[0x02, 0x61, 0x00, 0x27],
-        &[0x02, 0x61, 0x00, 0xff, 0x00],
-        &[0x02, 0x61, 0x62, 0x00],
-        &[0x12, 0xfe, 0xff],
-        &[0x13, 0xfe],
-        &[0x14],
-        &[0x15, 0x02],
-        &[0x16, 0x01, 0x00],
-        &[0x21, 0x7f, 0xff, 0xff, 0xff, 0xff, 0xff, 0xff, 0xff],
-        &[0x21, 0x80, 0, 0, 0, 0, 0, 0, 0],
-        &[0x26],
-        &[0x27],
-    ];
-    for (i, key) in rows.iter().enumerate() {
-        assert!(rt; decode(rt.alloc(), key).is_ok(), "{key:?}");
-        for (k, other) in rows.iter().enumerate() {
-            assert_eq!(rt; i < k, *key < *other, "{key:?} and {other:?}");
-        }
+// The place where the bytes with these digits are no key, and none where they are one.
+fn fault_of(alloc: Global, digits: &str) -> Result<Option<u64>, Fail> {
+    let bytes = hex::decode(alloc, digits)?;
+    match decode(alloc, bytes.as_slice()) {
+        Ok(_) => Ok(None),
+        Err(KeyError::NotAKey { at }) => Ok(Some(at)),
+        Err(KeyError::NoMemory) => Err(KeyError::NoMemory.into()),
     }
 }
 
 #[test]
-fn what_is_no_key_is_refused_where_no_part_begins(rt: HostRuntime) {
-    let rows: [(&[u8], u64); 29] = [
-        (&[0x02, 0x61], 0),
-        (&[0x15, 0x00], 0),
-        (&[0x03], 0),
-        (&[0x00], 0),
-        (&[0x25], 0),
-        (&[0x28], 0),
-        (&[0xff], 0),
-        (&[0x01], 0),
-        (&[0x01, 0x61, 0x00, 0xff], 0),
-        (&[0x01, 0x61, 0x00, 0xff, 0x62], 0),
-        (&[0x02, 0xc3, 0x00], 0),
-        (&[0x02, 0x61, 0x00, 0xff, 0xff, 0x00], 0),
-        (&[0x15], 0),
-        (&[0x16, 0x01], 0),
-        (&[0x16, 0x00, 0x01], 0),
-        (&[0x13, 0xff], 0),
-        (&[0x12, 0xff, 0x00], 0),
-        (&[0x1d], 0),
-        (&[0x1d, 0x08, 1, 2, 3, 4, 5, 6, 7, 8], 0),
-        (&[0x1d, 0x09, 1, 2, 3, 4, 5, 6, 7, 8], 0),
-        (&[0x1d, 0x09, 0, 2, 3, 4, 5, 6, 7, 8, 9], 0),
-        (&[0x0b], 0),
-        (&[0x0b, 0xf7, 1, 2, 3, 4, 5, 6, 7, 8], 0),
-        (&[0x0b, 0xf6, 255, 2, 3, 4, 5, 6, 7, 8, 9], 0),
-        (&[0x21, 1, 2, 3, 4, 5, 6, 7], 0),
-        (&[0x02, 0x61, 0x00, 0x27, 0x02, 0x61], 4),
-        (&[0x14, 0x01, 0x00, 0xff, 0x00, 0x21, 0x00], 5),
-        (&[0x27, 0xff], 1),
-        (&[0x15, 0x01, 0x00], 2),
-    ];
-    for (key, at) in &rows {
-        let refused = decode(rt.alloc(), key).err();
-        assert_eq!(rt; refused, Some(KeyError::NotAKey { at: *at }), "{key:?}");
+fn what_is_no_key_is_refused_where_no_part_begins(rt: HostRuntime) -> Result<(), Fail> {
+    for (digits, at) in [
+        ("0261", 0),
+        ("1500", 0),
+        ("03", 0),
+        ("00", 0),
+        ("25", 0),
+        ("28", 0),
+        ("ff", 0),
+        ("01", 0),
+        ("016100ff", 0),
+        ("016100ff62", 0),
+        ("02c300", 0),
+        ("026100ffff00", 0),
+        ("15", 0),
+        ("1601", 0),
+        ("160001", 0),
+        ("13ff", 0),
+        ("12ff00", 0),
+        ("1d", 0),
+        ("1d080102030405060708", 0),
+        ("1d090102030405060708", 0),
+        ("1d09000203040506070809", 0),
+        ("0b", 0),
+        ("0bf70102030405060708", 0),
+        ("0bf6ff0203040506070809", 0),
+        ("2101020304050607", 0),
+        ("026100270261", 4),
+        ("140100ff002100", 5),
+        ("27ff", 1),
+        ("150100", 2),
+    ] {
+        let fault = fault_of(rt.alloc(), digits)?;
+        assert_eq!(rt; fault, Some(at), "{digits}");
     }
+    Ok(())
 }
 
 #[test]
-fn ranges_and_versionstamps_are_spelled(rt: HostRuntime) {
-    let Ok((start, end)) = prefix_range(rt.alloc(), &[0x02, 0x61, 0x00]) else {
-        panic!(rt; "no memory");
-    };
-    assert_eq!(rt; start.as_slice(), [0x02, 0x61, 0x00, 0x00].as_slice());
-    assert_eq!(rt; end.as_slice(), [0x02, 0x61, 0x00, 0xff].as_slice());
+fn a_refusal_names_its_place(rt: HostRuntime) -> Result<(), Fail> {
+    let words = format!(in rt.alloc(); "{}", KeyError::NotAKey { at: 5 })?;
+    assert_eq!(rt; words.as_str(), "no part of a key begins at byte 5");
+    Ok(())
+}
+
+#[test]
+fn ranges_and_versionstamps_are_spelled(rt: HostRuntime) -> Result<(), Fail> {
+    let (start, end) = prefix_range(rt.alloc(), b"\x02a\0")?;
+    assert_eq!(rt; start.as_slice(), b"\x02a\0\0".as_slice());
+    assert_eq!(rt; end.as_slice(), b"\x02a\0\xff".as_slice());
     let n = 0x0123_4567_89ab_cdef;
-    assert_eq!(rt;
-        stamp_of(n),
-        [0x01, 0x23, 0x45, 0x67, 0x89, 0xab, 0xcd, 0xef, 0, 0]
-    );
+    assert_eq!(rt; &stamp_of(n), b"\x01\x23\x45\x67\x89\xab\xcd\xef\0\0");
     assert_eq!(rt; &stamp_hex(n), b"0123456789abcdef0000");
     assert_eq!(rt; &suffix(n), b"\x020123456789abcdef0000\0");
+    Ok(())
 }

@@ -1,76 +1,83 @@
+// How parts are written.
 ghost use Rattle.std.specs.Prelude.{◌≡◌, ◌<◌, ◌^◌, ◌++◌, ◌∷◌, [], OnOk, IfOk};
 ghost use Rattle.std.specs.List.{All};
-ghost use Rattle.dkv_key.specs.Parts.{AreBytes, FitsPart, IsWellFormed, escaped, count_spelling, magnitude_spelling, stored_pattern, spelling};
+ghost use Rattle.hex.specs.Hex.{IsBytes};
+ghost use Rattle.dkv_key.specs.Parts.{FitsPart, IsWellFormed, escaped, count_spelling, magnitude_spelling, stored_pattern, spelling, range_start, range_end};
 ghost use Rattle.dkv_key.specs.Reading.{IsKey};
 
 use crate::Part;
+use crate::codes::{
+    BYTES, DOUBLE, END, ESCAPE, FALSE, LONG_NEGATIVE, LONG_POSITIVE, MAX_SHORT_BYTES, RANGE_END,
+    RANGE_START, TEXT, TRUE, ZERO,
+};
 use dkv_base::{Bytes, NoMemory};
 use std::alloc::Global;
 
+// One byte behind those that are written.
 pub(crate) fn put(out: &mut Vec<u8>, byte: u8) -> Result<(), NoMemory>
     ensures { OnOk result (out.new.items ≡ out.old.items ++ byte ∷ []) }
 {
-    match out.push(byte) {
-        Ok(()) => Ok(()),
-        Err(_) => Err(NoMemory),
-    }
+    put_all(out, &[byte])
 }
 
+// These bytes behind those that are written.
 fn put_all(out: &mut Vec<u8>, bytes: &[u8]) -> Result<(), NoMemory>
     ensures { OnOk result (out.new.items ≡ out.old.items ++ bytes.now) }
 {
-    match out.extend_from_slice(bytes) {
-        Ok(()) => Ok(()),
-        Err(_) => Err(NoMemory),
-    }
+    out.extend_from_slice(bytes)?;
+    Ok(())
 }
 
 // Each 00 as 00 FF, and a 00 at the end.
 fn put_text(out: &mut Vec<u8>, text: &[u8]) -> Result<(), NoMemory>
-    ensures spelled { OnOk result (out.new.items ≡ out.old.items ++ (escaped text.now ++ 0 ∷ [])) }
-    ensures fits { AreBytes text.now }
+    ensures spelled { OnOk result
+        (out.new.items ≡ out.old.items ++ (escaped text.now ++ END ∷ [])) }
+    ensures fits { IsBytes text.now }
 {
     for byte in text {
         put(out, *byte)?;
         if *byte == 0 {
-            put(out, 255)?;
+            put(out, ESCAPE)?;
         }
     }
-    put(out, 0)
+    put(out, END)
 }
 
+// The code of an integer with so many magnitude bytes.
 fn put_count(out: &mut Vec<u8>, negative: bool, count: u8) -> Result<(), NoMemory>
     ensures { OnOk result (out.new.items ≡ out.old.items ++ count_spelling negative count) }
 {
-    match (negative, count <= 8) {
-        (false, true) => put(out, 20 + count),
-        (true, true) => put(out, 20 - count),
-        (false, false) => put_all(out, &[29, count]),
-        (true, false) => put_all(out, &[11, 255 - count]),
+    match (negative, count <= MAX_SHORT_BYTES) {
+        (false, true) => put(out, ZERO + count),
+        (true, true) => put(out, ZERO - count),
+        (false, false) => put_all(out, &[LONG_POSITIVE, count]),
+        (true, false) => put_all(out, &[LONG_NEGATIVE, u8::MAX - count]),
     }
 }
 
+// Each byte of a negative number complemented.
 pub(crate) fn put_magnitude(
     out: &mut Vec<u8>,
     negative: bool,
     magnitude: &[u8],
 ) -> Result<(), NoMemory>
-    ensures spelled { OnOk result (out.new.items ≡ out.old.items ++ magnitude_spelling negative magnitude.now) }
-    ensures fits { AreBytes magnitude.now }
+    ensures spelled { OnOk result
+        (out.new.items ≡ out.old.items ++ magnitude_spelling negative magnitude.now) }
+    ensures fits { IsBytes magnitude.now }
 {
     if !negative {
         return put_all(out, magnitude);
     }
     for byte in magnitude {
-        put(out, 255 - *byte)?;
+        put(out, u8::MAX - *byte)?;
     }
     Ok(())
 }
 
-// The pattern with its top bit set, where it isn't, and else with all bits complemented.
+// The pattern with its sign bit set, where it isn't, and else with all bits complemented.
 #[tactic(auto, unfolding(crate::specs::Parts::stored_pattern))]
-fn stored(pattern: u64) -> u64
-    ensures stored { result ≡ stored_pattern pattern }
+fn stored_pattern(pattern: u64) -> u64
+    ensures value { result ≡ stored_pattern pattern }
     ensures fits { pattern < 2 ^ 64 }
 {
     if pattern < 1 << 63 {
@@ -80,6 +87,7 @@ fn stored(pattern: u64) -> u64
     }
 }
 
+// The spelling of a part.
 fn put_part(out: &mut Vec<u8>, part: &Part) -> Result<(), NoMemory>
     requires { IsWellFormed part.now }
     ensures spelled { OnOk result (out.new.items ≡ out.old.items ++ spelling part.now) }
@@ -87,11 +95,11 @@ fn put_part(out: &mut Vec<u8>, part: &Part) -> Result<(), NoMemory>
 {
     match part {
         Part::Bytes(bytes) => {
-            put(out, 1)?;
+            put(out, BYTES)?;
             put_text(out, bytes.as_slice())
         }
         Part::Text(text) => {
-            put(out, 2)?;
+            put(out, TEXT)?;
             put_text(out, text.as_slice())
         }
         Part::Int {
@@ -103,10 +111,10 @@ fn put_part(out: &mut Vec<u8>, part: &Part) -> Result<(), NoMemory>
             put_magnitude(out, *negative, magnitude)
         }
         Part::Double(pattern) => {
-            put(out, 33)?;
-            put_all(out, &stored(*pattern).to_be_bytes())
+            put(out, DOUBLE)?;
+            put_all(out, &stored_pattern(*pattern).to_be_bytes())
         }
-        Part::Bool(b) => put(out, if *b { 39 } else { 38 }),
+        Part::Bool(b) => put(out, if *b { TRUE } else { FALSE }),
     }
 }
 
@@ -122,15 +130,12 @@ pub fn encode(alloc: Global, parts: &[Part]) -> Result<Bytes, NoMemory>
     Ok(Bytes::of(out))
 }
 
-/// The bounds of the keys that begin with this one and have more parts: from the first, and before the second.
+/// The range of the keys that begin with this one and have more parts: from the first on, and below the second.
 pub fn prefix_range(alloc: Global, key: &[u8]) -> Result<(Bytes, Bytes), NoMemory>
-    ensures { IfOk result (λ range. (range.0 ≡ key.now ++ 0 ∷ []) × (range.1 ≡ key.now ++ 255 ∷ [])) }
+    ensures start { IfOk result (λ range. range.0 ≡ range_start key.now) }
+    ensures end { IfOk result (λ range. range.1 ≡ range_end key.now) }
 {
-    let mut start = Vec::new(alloc);
-    put_all(&mut start, key)?;
-    put(&mut start, 0)?;
-    let mut end = Vec::new(alloc);
-    put_all(&mut end, key)?;
-    put(&mut end, 255)?;
-    Ok((Bytes::of(start), Bytes::of(end)))
+    let start = Bytes::joined(alloc, key, &[RANGE_START])?;
+    let end = Bytes::joined(alloc, key, &[RANGE_END])?;
+    Ok((start, end))
 }

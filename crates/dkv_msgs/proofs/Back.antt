@@ -7,15 +7,15 @@ use Rattle.std.specs.Int.{w32, w64, cast_signed}
 use Rattle.std.proofs.lemmas.Bool.{eqb-true}
 use Rattle.std.proofs.lemmas.Int.{ints, to_z-of_z}
 use Rattle.std.proofs.lemmas.List.{append-nil}
-use Rattle.dkv_base.specs.Spelling.{varint, part, unsigned, flag}
-use Rattle.dkv_wire.specs.Wire.{Item, Content, AVarint, AFixed64, ALen, AFixed32}
+use Rattle.dkv_base.specs.Protobuf.{varint, delimited, unsigned, flag}
+use Rattle.dkv_wire.specs.Wire.{Item, Content, AVarint, AFixed64, ALen, AFixed32, IsFieldNumber}
 use Rattle.dkv_wire.specs.FieldLists.{fields, varints, are_varints, are_varints_in}
 use Rattle.dkv_wire.proofs.Written.{varints_again, are_varints_again}
 use Rattle.dkv_wire.proofs.Steps.{varints_end}
-use Rattle.dkv_msgs.specs.ByNumber.{number_in, bytes_in, numbers_in, payloads, last_or, last_number, last_bytes, numbers, int32, int64, uint32, truth}
+use Rattle.dkv_msgs.specs.ByField.{number_in, bytes_in, numbers_in, payloads, last_or, last_number, last_bytes, numbers, int32, int64, uint32, truth}
 use Rattle.dkv_msgs.specs.Messages.{each_of, if_given, one_of}
-use Rattle.dkv_msgs.specs.Places.{earlier, look_in, in_number, embedded, packed}
-use Rattle.dkv_msgs.proofs.Shown.{Shows, Shown, IsNumber, nothing_shown, bytes_content, number_content, part_shown, picked, held_by_shown}
+use Rattle.dkv_msgs.specs.Places.{earlier, look_in, in_fields, embedded, packed}
+use Rattle.dkv_msgs.proofs.Shown.{Shows, Shown, nothing_shown, bytes_content, number_content, delimited_shown, picked, held_by_shown}
 
 -- ---- numbers
 
@@ -105,21 +105,21 @@ first_good true look f (ALen text) texts all = (all.0 f.at (f.end - length text)
 first_good true look f (AFixed32 n) texts all = (refl, all)
 first_good false look f c texts all = (refl, all)
 
-in_number_good : (k : ℕ) (look : ℕ → ℕ → List ℕ → Option ℕ) (fs : List Item) → AllByRecursion (Good look) (payloads k fs) → in_number k look fs ≡ None
-in_number_good k look [] all = refl
-in_number_good k look (f ∷ fs) all =
+in_fields_good : (k : ℕ) (look : ℕ → ℕ → List ℕ → Option ℕ) (fs : List Item) → AllByRecursion (Good look) (payloads k fs) → in_fields k look fs ≡ None
+in_fields_good k look [] all = refl
+in_fields_good k look (f ∷ fs) all =
     let first = first_good (eqb f.number k) look f f.content (payloads k fs) all in
-    ap (λ (a : Option ℕ). earlier a (in_number k look fs)) first.0 ∙ ap (earlier None) (in_number_good k look fs first.1)
+    ap (λ (a : Option ℕ). earlier a (in_fields k look fs)) first.0 ∙ ap (earlier None) (in_fields_good k look fs first.1)
 
-pub good_back : (k at : ℕ) (look : ℕ → ℕ → List ℕ → Option ℕ) (bytes : List ℕ) (gs : List (ℕ × List Content)) → Shows bytes gs → AllByRecursion (Good look) (picked bytes_in k gs) → in_number k look (fields at bytes) ≡ None
-good_back k at look bytes gs x all = in_number_good k look (fields at bytes) (subst (AllByRecursion (Good look)) (sym (held_by_shown bytes_in k at bytes gs x)) all)
+pub good_back : (k at : ℕ) (look : ℕ → ℕ → List ℕ → Option ℕ) (bytes : List ℕ) (gs : List (ℕ × List Content)) → Shows bytes gs → AllByRecursion (Good look) (picked bytes_in k gs) → in_fields k look (fields at bytes) ≡ None
+good_back k at look bytes gs x all = in_fields_good k look (fields at bytes) (subst (AllByRecursion (Good look)) (sym (held_by_shown bytes_in k at bytes gs x)) all)
 
 packed_good : (b : List ℕ) → are_varints b ≡ true → AllByRecursion (Good packed) (flat_map bytes_in (bytes_content b) ++ [])
 packed_good [] are = tt
 packed_good (b ∷ bs) are = (λ at place. ap (λ (t : Bool). cond t None (Some at)) are, tt)
 
 pub packed_back : (k at : ℕ) (bytes : List ℕ) (gs : List (ℕ × List Content)) (ns : List ℕ) → Shows bytes gs → picked bytes_in k gs ≡ flat_map bytes_in (bytes_content (flat_map varint ns)) ++ []
-    → AllByRecursion (λ n. n < 2 ^ 32) ns → in_number k packed (fields at bytes) ≡ None
+    → AllByRecursion (λ n. n < 2 ^ 32) ns → in_fields k packed (fields at bytes) ≡ None
 packed_back k at bytes gs ns x is fits = good_back k at packed bytes gs x (subst (AllByRecursion (Good packed)) (sym is) (packed_good (flat_map varint ns) (are_varints_back ns fits)))
 
 texts_back : {X : Type 0} (f : X → List ℕ) (xs : List X) → flat_map bytes_in (map (λ x. ALen (f x)) xs) ++ [] ≡ map f xs
@@ -152,7 +152,7 @@ each_good spell read bad_message (m ∷ ms) back = (λ at place. back.0.whole pl
 -- repeated messages
 pub record ManyBack {M : Type 0} (read : List Item → M) (bad_message : ℕ → List ℕ → Option ℕ) (k : ℕ) (ms : List M) (fs : List Item) : Type 0 where
   pub messages : each_of read k fs ≡ ms
-  pub whole : in_number k (embedded bad_message) fs ≡ None
+  pub whole : in_fields k (embedded bad_message) fs ≡ None
 
 pub many_back : {M : Type 0} (spell : M → List ℕ) (read : List Item → M) (bad_message : ℕ → List ℕ → Option ℕ) (k at : ℕ) (bytes : List ℕ) (gs : List (ℕ × List Content)) (ms : List M) → Shows bytes gs
     → picked bytes_in k gs ≡ flat_map bytes_in (map (λ m. ALen (spell m)) ms) ++ [] → AllByRecursion (Back spell read bad_message) ms → ManyBack read bad_message k ms (fields at bytes)
@@ -172,13 +172,13 @@ abbrev pub OptionBack : {M : Type 0} → (M → List ℕ) → (List Item → M) 
 OptionBack spell read bad_message None = Unit {0}
 OptionBack spell read bad_message (Some m) = Back spell read bad_message m
 
-pub option_shown : {M : Type 0} (spell : M → List ℕ) (k : ℕ) (o : Option M) → IsNumber k → Shown (option_map_or (λ m. part k (spell m)) o []) ((k, option_content spell o) ∷ [])
+pub option_shown : {M : Type 0} (spell : M → List ℕ) (k : ℕ) (o : Option M) → IsFieldNumber k → Shown (option_map_or (λ m. delimited k (spell m)) o []) ((k, option_content spell o) ∷ [])
 option_shown spell k None is lt = nothing_shown k
-option_shown spell k (Some m) is lt = part_shown k (spell m) is lt
+option_shown spell k (Some m) is lt = delimited_shown k (spell m) is lt
 
 pub record OneBack {M : Type 0} (read : List Item → M) (bad_message : ℕ → List ℕ → Option ℕ) (k : ℕ) (o : Option M) (fs : List Item) : Type 0 where
   pub message : one_of read k fs ≡ o
-  pub whole : in_number k (embedded bad_message) fs ≡ None
+  pub whole : in_fields k (embedded bad_message) fs ≡ None
 
 one_same : {M : Type 0} (spell : M → List ℕ) (read : List Item → M) (bad_message : ℕ → List ℕ → Option ℕ) (o : Option M) (texts : List (List ℕ)) → texts ≡ flat_map bytes_in (option_content spell o) ++ []
     → OptionBack spell read bad_message o → if_given texts (read (flat_map (λ text. fields 0 text) texts)) ≡ o

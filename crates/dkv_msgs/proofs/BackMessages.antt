@@ -8,7 +8,9 @@ use Rattle.dkv_base.specs.declared.types.Enqueue.{Enqueue}
 use Rattle.dkv_base.specs.declared.types.Mutation.{Mutation}
 use Rattle.dkv_base.specs.declared.types.Value.{Value}
 use Rattle.dkv_base.specs.Fits.{FitsValue, FitsMutation, FitsEnqueue, FitsWrite}
-use Rattle.dkv_base.specs.Spelling.{flag, unsigned, varint, number_field, bytes_field, spell_range, spell_check, spell_mutation, spell_enqueue, spell_write, spell_ranges, spell_keys}
+use Rattle.dkv_base.specs.Protobuf.{flag, unsigned, varint, number_field, bytes_field}
+use Rattle.dkv_msgs.specs.Spellings.{all_delimited, spell_range, spell_ranges, spell_keys, spell_range_output, spell_snapshot_read_output, spell_atomic_write_output, spell_watch_key_output, spell_watch_output}
+use Rattle.dkv_base.specs.Spelling.{spell_check, spell_mutation, spell_enqueue, spell_write}
 use Rattle.dkv_wire.specs.Wire.{Content, ALen}
 use Rattle.dkv_wire.specs.FieldLists.{fields, bad}
 use Rattle.dkv_msgs.specs.declared.types.AtomicWriteOutput.{AtomicWriteOutput}
@@ -16,15 +18,14 @@ use Rattle.dkv_msgs.specs.declared.types.SnapshotRead.{SnapshotRead}
 use Rattle.dkv_msgs.specs.declared.types.SnapshotReadOutput.{SnapshotReadOutput}
 use Rattle.dkv_msgs.specs.declared.types.Watch.{Watch}
 use Rattle.dkv_msgs.specs.declared.types.WatchOutput.{WatchOutput}
-use Rattle.dkv_msgs.specs.ByNumber.{int32, truth}
+use Rattle.dkv_msgs.specs.ByField.{int32, truth}
 use Rattle.dkv_msgs.specs.Fits.{RangeFits, ReadFits, ValueFits, MutationFits, EnqueueFits, WriteFits, EntryFits, ReadOutputFits, WriteOutputFits, KeyOutputFits, WatchOutputFits}
 use Rattle.dkv_msgs.specs.Messages.{read_range, snapshot_read, check, mutation, enqueue, atomic_write, watch_key, watch, range_output, snapshot_read_output, atomic_write_output, watch_key_output, watch_output}
 use Rattle.dkv_msgs.specs.Places.{bad_mutation, bad_enqueue, bad_range_output, bad_watch_key_output, bad_snapshot_read, bad_snapshot_read_output, bad_atomic_write, bad_atomic_write_output, bad_watch, bad_watch_output}
 use Rattle.dkv_msgs.specs.Readings.{unless_bad, reads_snapshot_read, reads_snapshot_read_output, reads_atomic_write, reads_atomic_write_output, reads_watch, reads_watch_output}
-use Rattle.dkv_msgs.specs.Spellings.{spell_range_output, spell_snapshot_read_output, spell_atomic_write_output, spell_watch_key_output, spell_watch_output}
-use Rattle.dkv_msgs.proofs.Shown.{both, bytes_content, number_content, bytes_shown, number_shown, parts_of, parts_shown, bad_shown}
+use Rattle.dkv_msgs.proofs.Shown.{both, bytes_content, number_content, bytes_shown, number_shown, all_delimited_shown, bad_shown}
 use Rattle.dkv_msgs.proofs.Back.{int32_back, unsigned32, flag_small, truth_back, bytes_back, number_back, numbers_back, packed_back, many_back}
-use Rattle.dkv_msgs.proofs.BackParts.{Max, one, two, three, four, eight, no_bad, range_back, check_back, key_back, enqueue_back, mutation_back, range_output_back, key_output_back, all_back}
+use Rattle.dkv_msgs.proofs.BackEmbedded.{Max, one, two, three, four, eight, no_bad, range_back, check_back, key_back, enqueue_back, mutation_back, range_output_back, key_output_back, all_back}
 
 abbrev Groups : Type 0
 Groups = List (ℕ × List Content)
@@ -37,7 +38,7 @@ pub read_again : (m : SnapshotRead) → ReadFits m → length (spell_ranges m.ra
 read_again m fits lt =
     let b = spell_ranges m.ranges in
     let gs : Groups = (1, map (λ r. ALen (spell_range r)) m.ranges) ∷ [] in
-    let x = parts_shown 1 spell_range m.ranges one lt in
+    let x = all_delimited_shown 1 spell_range m.ranges one lt in
     let ranges = many_back spell_range read_range bad 1 0 b gs m.ranges x refl (all_back 1 spell_range read_range bad RangeFits m.ranges range_back fits lt) in
     is_read (bad_snapshot_read 0 b) m (snapshot_read (fields 0 b)) (no_bad _ _ (bad_shown 0 b gs x) ranges.whole) (λ i. record { ranges = ranges.messages i })
 
@@ -45,7 +46,7 @@ pub watch_again : (m : Watch) → length (spell_keys m.keys) < Max → reads_wat
 watch_again m lt =
     let b = spell_keys m.keys in
     let gs : Groups = (1, map (λ key. ALen (bytes_field 1 key)) m.keys) ∷ [] in
-    let x = parts_shown 1 (bytes_field 1) m.keys one lt in
+    let x = all_delimited_shown 1 (bytes_field 1) m.keys one lt in
     let keys = many_back (bytes_field 1) watch_key bad 1 0 b gs m.keys x refl (all_back 1 (bytes_field 1) watch_key bad (λ key. Unit {0}) m.keys (λ key fits small. key_back key small) (λ k d at. tt) lt) in
     is_read (bad_watch 0 b) m (watch (fields 0 b)) (no_bad _ _ (bad_shown 0 b gs x) keys.whole) (λ i. record { keys = keys.messages i })
 
@@ -56,10 +57,10 @@ pub write_again : (w : AtomicWrite) → WriteFits w → length (spell_write w) <
 write_again w fits lt =
     let b = spell_write w in
     let gs = write_groups w in
-    let cs = parts_of 1 spell_check w.checks in
-    let ms = parts_of 2 spell_mutation w.mutations in
-    let qs = parts_of 3 spell_enqueue w.enqueues in
-    let x = both _ _ _ _ (both _ _ _ _ (parts_shown 1 spell_check w.checks one) (parts_shown 2 spell_mutation w.mutations two)) (parts_shown 3 spell_enqueue w.enqueues three) lt in
+    let cs = all_delimited 1 spell_check w.checks in
+    let ms = all_delimited 2 spell_mutation w.mutations in
+    let qs = all_delimited 3 spell_enqueue w.enqueues in
+    let x = both _ _ _ _ (both _ _ _ _ (all_delimited_shown 1 spell_check w.checks one) (all_delimited_shown 2 spell_mutation w.mutations two)) (all_delimited_shown 3 spell_enqueue w.enqueues three) lt in
     let small_cs : length cs < Max = omega (arith, lt, length-append (cs ++ ms) qs, length-append cs ms) in
     let small_ms : length ms < Max = omega (arith, lt, length-append (cs ++ ms) qs, length-append cs ms) in
     let small_qs : length qs < Max = omega (arith, lt, length-append (cs ++ ms) qs, length-append cs ms) in
@@ -77,11 +78,11 @@ pub read_output_again : (m : SnapshotReadOutput) → ReadOutputFits m → length
 read_output_again m fits lt =
     let b = spell_snapshot_read_output m in
     let gs = read_output_groups m in
-    let rs = parts_of 1 spell_range_output m.ranges in
+    let rs = all_delimited 1 spell_range_output m.ranges in
     let n2 = number_field 2 (flag m.read_disabled) in
     let n4 = number_field 4 (flag m.strong) in
     let n8 = number_field 8 (unsigned m.status) in
-    let x = both _ _ _ _ (both _ _ _ _ (both _ _ _ _ (parts_shown 1 spell_range_output m.ranges one) (number_shown 2 (flag m.read_disabled) two (flag_small m.read_disabled))) (number_shown 4 (flag m.strong) four (flag_small m.strong))) (number_shown 8 (unsigned m.status) eight (unsigned32 m.status fits.status)) lt in
+    let x = both _ _ _ _ (both _ _ _ _ (both _ _ _ _ (all_delimited_shown 1 spell_range_output m.ranges one) (number_shown 2 (flag m.read_disabled) two (flag_small m.read_disabled))) (number_shown 4 (flag m.strong) four (flag_small m.strong))) (number_shown 8 (unsigned m.status) eight (unsigned32 m.status fits.status)) lt in
     let small : length rs < Max = omega (arith, lt, length-append (rs ++ n2 ++ n4) n8, length-append (rs ++ n2) n4, length-append rs n2) in
     let ranges = many_back spell_range_output range_output bad_range_output 1 0 b gs m.ranges x refl (all_back 1 spell_range_output range_output bad_range_output (All EntryFits) m.ranges range_output_back fits.ranges small) in
     let read_disabled = ap truth (number_back 2 0 b gs (flag m.read_disabled) x refl) ∙ truth_back m.read_disabled in
@@ -112,8 +113,8 @@ pub watch_output_again : (m : WatchOutput) → WatchOutputFits m → length (spe
 watch_output_again m fits lt =
     let b = spell_watch_output m in
     let gs = watch_output_groups m in
-    let ks = parts_of 2 spell_watch_key_output m.keys in
-    let x = both _ _ _ _ (number_shown 1 (unsigned m.status) one (unsigned32 m.status fits.status)) (parts_shown 2 spell_watch_key_output m.keys two) lt in
+    let ks = all_delimited 2 spell_watch_key_output m.keys in
+    let x = both _ _ _ _ (number_shown 1 (unsigned m.status) one (unsigned32 m.status fits.status)) (all_delimited_shown 2 spell_watch_key_output m.keys two) lt in
     let small : length ks < Max = omega (arith, lt, length-append (number_field 1 (unsigned m.status)) ks) in
     let keys = many_back spell_watch_key_output watch_key_output bad_watch_key_output 2 0 b gs m.keys x refl (all_back 2 spell_watch_key_output watch_key_output bad_watch_key_output KeyOutputFits m.keys key_output_back fits.keys small) in
     let status = ap int32 (number_back 1 0 b gs (unsigned m.status) x refl) ∙ int32_back m.status fits.status in

@@ -4,7 +4,7 @@ use Rattle.std.specs.Prelude.{flat_map}
 use Rattle.std.proofs.lemmas.Grind.{flat_map-append}
 use Rattle.dkv_wire.specs.Wire.{Content}
 use Rattle.dkv_wire.specs.FieldLists.{fields}
-use Rattle.dkv_msgs.specs.ByNumber.{last_or, held_by}
+use Rattle.dkv_msgs.specs.ByField.{last_or, held_by}
 
 last_or-append : {X : Type 0} (x : X) (xs ys : List X) → last_or x (xs ++ ys) ≡ last_or (last_or x xs) ys
 last_or-append x [] ys = refl

@@ -1,10 +1,10 @@
-pub mod Shown
-pub mod Back
-pub mod BackParts
-pub mod BackMessages
-pub mod Short
-pub mod ShortMessages
+mod Shown
+mod Back
+mod BackEmbedded
+mod BackMessages
+mod Short
+mod WholePayloads
+mod ShortMessages
 mod Joined
-pub mod Rows
+mod RangesSpelled
 mod Table
-mod Told

@@ -5,14 +5,14 @@ use Rattle.std.specs.List.{flat_map, AllByRecursion}
 use Rattle.std.specs.Int.{w32, w64, cast_unsigned}
 use Rattle.std.proofs.lemmas.Bool.{eqb-true, cases_lt}
 use Rattle.std.proofs.lemmas.Int.{to_z_pos, of_z-to_z}
-use Rattle.dkv_base.specs.Spelling.{groups, varint, part, number_field, bytes_field, numbers_field, unsigned}
+use Rattle.dkv_base.specs.Protobuf.{groups, varint, delimited, number_field, bytes_field, numbers_field, unsigned}
 use Rattle.dkv_wire.specs.Wire.{Item, Content, AVarint, AFixed64, ALen, AFixed32}
 use Rattle.dkv_wire.specs.FieldLists.{fields, varints}
 use Rattle.dkv_wire.specs.Reading.{field_at}
 use Rattle.dkv_wire.proofs.Steps.{field_shorter, fields_found, fields_none}
 use Rattle.dkv_wire.proofs.Sizes.{varint_size}
 use Rattle.dkv_wire.proofs.Shortest.{size_rises, size_some, size_one, IsSized, packed_short}
-use Rattle.dkv_msgs.specs.ByNumber.{number_in, bytes_in, numbers_in, held_by, payloads, last_or, last_number, last_bytes, numbers, int32, int64, uint32}
+use Rattle.dkv_msgs.specs.ByField.{number_in, bytes_in, numbers_in, held_by, payloads, last_or, last_number, last_bytes, numbers, int32, int64, uint32}
 use Rattle.dkv_msgs.proofs.Shown.{contents, held, held_contents}
 
 -- the bytes of the fields of number k
@@ -25,10 +25,10 @@ AreSized fs = AllByRecursion (λ f. IsSized f.number (f.end - f.at) f.content) f
 
 -- ---- lengths of fields
 
-pub part_length : (k : ℕ) (bytes : List ℕ) → length (part k bytes) ≡ length (varint (k * 8 + 2)) + length (varint (length bytes)) + length bytes
-part_length k bytes = omega (arith, length-append (varint (k * 8 + 2) ++ varint (length bytes)) bytes, length-append (varint (k * 8 + 2)) (varint (length bytes)))
+pub delimited_length : (k : ℕ) (bytes : List ℕ) → length (delimited k bytes) ≡ length (varint (k * 8 + 2)) + length (varint (length bytes)) + length bytes
+delimited_length k bytes = omega (arith, length-append (varint (k * 8 + 2) ++ varint (length bytes)) bytes, length-append (varint (k * 8 + 2)) (varint (length bytes)))
 
-bytes_at_most : (k : ℕ) (bytes : List ℕ) → length (bytes_field k bytes) ≤ length (part k bytes)
+bytes_at_most : (k : ℕ) (bytes : List ℕ) → length (bytes_field k bytes) ≤ length (delimited k bytes)
 bytes_at_most k [] = omega arith
 bytes_at_most k (b ∷ bs) = omega arith
 
@@ -90,7 +90,7 @@ bytes_step : (b : Bool) (k : ℕ) (x : List ℕ) (f : Item) (c : Content) (fs : 
     → length (bytes_field k (last_or x (cond b (bytes_in c) [] ++ payloads k fs))) ≤ length (bytes_field k x) + (cond b (f.end - f.at) 0 + weight k fs)
 bytes_step true k x f (AVarint n) fs e is again = omega (arith, again x)
 bytes_step true k x f (AFixed64 n) fs e is again = omega (arith, again x)
-bytes_step true k x f (ALen text) fs e is again = omega (arith, again text, bytes_at_most k text, is.0, ap (λ (j : ℕ). length (part j text)) (eqb-true f.number k e))
+bytes_step true k x f (ALen text) fs e is again = omega (arith, again text, bytes_at_most k text, is.0, ap (λ (j : ℕ). length (delimited j text)) (eqb-true f.number k e))
 bytes_step true k x f (AFixed32 n) fs e is again = omega (arith, again x)
 bytes_step false k x f c fs e is again = omega (arith, again x)
 
@@ -134,15 +134,15 @@ int64_short k fs are = omega (arith, number_short k fs are, ap (λ (m : ℕ). le
 
 -- ---- repeated fields
 
-texts_step : (b : Bool) (k : ℕ) (f : Item) (c : Content) (fs : List Item) → eqb f.number k ≡ b → IsSized f.number (f.end - f.at) c → length (flat_map (part k) (payloads k fs)) ≤ weight k fs
-    → length (flat_map (part k) (cond b (bytes_in c) [] ++ payloads k fs)) ≤ cond b (f.end - f.at) 0 + weight k fs
+texts_step : (b : Bool) (k : ℕ) (f : Item) (c : Content) (fs : List Item) → eqb f.number k ≡ b → IsSized f.number (f.end - f.at) c → length (flat_map (delimited k) (payloads k fs)) ≤ weight k fs
+    → length (flat_map (delimited k) (cond b (bytes_in c) [] ++ payloads k fs)) ≤ cond b (f.end - f.at) 0 + weight k fs
 texts_step true k f (AVarint n) fs e is again = omega (arith, again)
 texts_step true k f (AFixed64 n) fs e is again = omega (arith, again)
-texts_step true k f (ALen text) fs e is again = omega (arith, again, is.0, ap (λ (j : ℕ). length (part j text)) (eqb-true f.number k e), length-append (part k text) (flat_map (part k) (payloads k fs)))
+texts_step true k f (ALen text) fs e is again = omega (arith, again, is.0, ap (λ (j : ℕ). length (delimited j text)) (eqb-true f.number k e), length-append (delimited k text) (flat_map (delimited k) (payloads k fs)))
 texts_step true k f (AFixed32 n) fs e is again = omega (arith, again)
 texts_step false k f c fs e is again = omega (arith, again)
 
-pub texts_short : (k : ℕ) (fs : List Item) → AreSized fs → length (flat_map (part k) (payloads k fs)) ≤ weight k fs
+pub texts_short : (k : ℕ) (fs : List Item) → AreSized fs → length (flat_map (delimited k) (payloads k fs)) ≤ weight k fs
 texts_short k [] are = omega arith
 texts_short k (f ∷ fs) are = texts_step (eqb f.number k) k f f.content fs refl are.0 (texts_short k fs are.1)
 
@@ -162,7 +162,7 @@ numbers_step : (b : Bool) (k : ℕ) (f : Item) (c : Content) (fs : List Item) �
     → packed (cond b (numbers_in c) [] ++ numbers k fs) + min 1 (length (map uint32 (cond b (numbers_in c) [] ++ numbers k fs))) ≤ cond b (f.end - f.at) 0 + weight k fs
 numbers_step true k f (AVarint n) fs e is again = omega (arith, again, is.0, size_some (f.number * 8), size_rises (n % 2 ^ 32) n (omega arith), length-append (varint (uint32 n)) (flat_map varint (map uint32 (numbers k fs))))
 numbers_step true k f (AFixed64 n) fs e is again = omega (arith, again)
-numbers_step true k f (ALen text) fs e is again = omega (arith, again, is.0, part_length f.number text, size_some (f.number * 8 + 2), size_some (length text), packed-append (varints text) (numbers k fs), uint32_small (varints text), packed_short text is.1)
+numbers_step true k f (ALen text) fs e is again = omega (arith, again, is.0, delimited_length f.number text, size_some (f.number * 8 + 2), size_some (length text), packed-append (varints text) (numbers k fs), uint32_small (varints text), packed_short text is.1)
 numbers_step true k f (AFixed32 n) fs e is again = omega (arith, again)
 numbers_step false k f c fs e is again = omega (arith, again)
 
@@ -179,7 +179,7 @@ numbers_length [] le = omega arith
 numbers_length (n ∷ ns) le =
     let b = flat_map varint (n ∷ ns) in
     let few : length b < 128 = omega (arith, le, ten_each (n ∷ ns)) in
-    omega (arith, bytes_at_most 4 b, part_length 4 b, size_one 34 (omega arith), size_one (length b) few)
+    omega (arith, bytes_at_most 4 b, delimited_length 4 b, size_one 34 (omega arith), size_one (length b) few)
 
 -- numbers that stood by themselves get one length before them
 pub numbers_short : (fs : List Item) → AreSized fs → length (map uint32 (numbers 4 fs)) ≤ 10 → length (numbers_field 4 (map uint32 (numbers 4 fs))) ≤ weight 4 fs + 1

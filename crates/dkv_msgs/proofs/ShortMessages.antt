@@ -1,110 +1,29 @@
 -- A write within its limits has a spelling that is little longer than the bytes that it was read of.
-use Rattle.std.proofs.Common.{◌≡◌, ℕ, ◌+◌, ◌-◌, ◌*◌, ◌≤◌, ◌⊎◌, Bool, true, false, cond, eqb, List, [], ◌∷◌, ◌++◌, length, map, Option, Some, None, Ok, refl, sym, ap, subst, inl, inr, arith, length-append}
-use Rattle.std.specs.Prelude.{ℤ, pos, negsuc, nat_lt, not}
+use Rattle.std.proofs.Common.{◌≡◌, ℕ, ◌+◌, ◌*◌, ◌≤◌, cond, List, [], ◌∷◌, ◌++◌, length, map, Option, Some, None, Ok, refl, sym, ap, subst, arith, length-append}
+use Rattle.std.specs.Prelude.{nat_lt, not}
 use Rattle.std.specs.List.{flat_map, AllByRecursion}
-use Rattle.std.specs.Option.{option_map_or, option_or}
-use Rattle.std.proofs.lemmas.Bool.{eqb-true, ltb-false}
+use Rattle.std.specs.Option.{option_map_or}
+use Rattle.std.proofs.lemmas.Bool.{ltb-false}
 use Rattle.std.proofs.lemmas.List.{length-map}
 use Rattle.dkv_base.proofs.ByteLists.{Below}
 use Rattle.dkv_base.specs.declared.types.AtomicWrite.{AtomicWrite}
-use Rattle.dkv_base.specs.declared.types.Limit.{Limit}
-use Rattle.dkv_base.specs.declared.types.Limit.TheVariants as limit
-use Rattle.dkv_base.specs.Laws.{SpellsShort}
-use Rattle.dkv_base.specs.Limits.{first_some, when, is_known_kind, is_bad_mutation_key, is_kind, kind_delete, value_limit, check_limit, mutation_limit, interval_limit, undelivered_limit, enqueue_limit, all_bytes, key_bytes, write_limit}
-use Rattle.dkv_base.specs.Spelling.{varint, part, number_field, bytes_field, numbers_field, unsigned, spell_check, spell_value, spell_mutation, spell_enqueue, spell_write}
-use Rattle.dkv_wire.specs.Wire.{Item, Content, AVarint, AFixed64, ALen, AFixed32}
+use Rattle.dkv_base.specs.declared.codes.Limit.TheVariants as limit
+use Rattle.dkv_base.specs.declared.types.Profile.TheVariants.{Narrow}
+use Rattle.dkv_msgs.specs.Laws.{SpellsShort}
+use Rattle.dkv_base.specs.Limits.{first_some, when, is_known_kind, is_bad_mutation_key, is_kind, value_limit, check_limit, mutation_limit, interval_limit, undelivered_limit, enqueue_limit, all_bytes, key_bytes, write_limit}
+use Rattle.dkv_base.specs.declared.kinds.TheConstants.{DELETE}
+use Rattle.dkv_base.specs.Protobuf.{varint, delimited, number_field, bytes_field, numbers_field, unsigned}
+use Rattle.dkv_base.specs.Spelling.{spell_check, spell_value, spell_mutation, spell_enqueue, spell_write}
+use Rattle.dkv_wire.specs.Wire.{Item}
 use Rattle.dkv_wire.specs.FieldLists.{fields, bad}
-use Rattle.dkv_wire.proofs.Shortest.{size_rises, size_step, size_sum, IsSized, span, Sized, sized}
-use Rattle.dkv_msgs.specs.ByNumber.{bytes_in, payloads, last_number, last_bytes}
+use Rattle.dkv_wire.proofs.Shortest.{size_rises, size_step, size_sum, span, Sized, sized}
+use Rattle.dkv_msgs.specs.ByField.{payloads, last_number, last_bytes}
 use Rattle.dkv_msgs.specs.Messages.{if_given, check, kv_value, mutation, enqueue, atomic_write}
-use Rattle.dkv_msgs.specs.Places.{earlier, look_in, in_number, embedded, packed, bad_mutation, bad_enqueue, bad_atomic_write}
+use Rattle.dkv_msgs.specs.Places.{earlier, in_fields, embedded, packed, bad_mutation, bad_enqueue, bad_atomic_write}
 use Rattle.dkv_msgs.specs.Readings.{unless_bad, reads_atomic_write}
-use Rattle.dkv_msgs.proofs.Shown.{parts_of}
-use Rattle.dkv_msgs.proofs.Short.{weight, AreSized, part_length, int32_short, int32_known, bytes_short, number_short, int64_short, texts_short, numbers_short, same_payloads}
-
--- ---- what the numbers' fields weigh together
-
-cases_eqb : (a b : ℕ) → (eqb a b ≡ true) ⊎ (eqb a b ≡ false)
-cases_eqb a b = elim (eqb a b) as (λ v. (v ≡ true) ⊎ (v ≡ false)) [ true ↦ inl refl | false ↦ inr refl ]
-
-once : (a b c d : Bool) (n s : ℕ) → eqb n 1 ≡ a → eqb n 2 ≡ b → eqb n 3 ≡ c → eqb n 4 ≡ d → cond a s 0 + cond b s 0 + cond c s 0 + cond d s 0 ≤ s
-once true true c d n s x y z w = absurd (omega (arith, eqb-true n 1 x, eqb-true n 2 y))
-once true false true d n s x y z w = absurd (omega (arith, eqb-true n 1 x, eqb-true n 3 z))
-once true false false true n s x y z w = absurd (omega (arith, eqb-true n 1 x, eqb-true n 4 w))
-once true false false false n s x y z w = omega arith
-once false true true d n s x y z w = absurd (omega (arith, eqb-true n 2 y, eqb-true n 3 z))
-once false true false true n s x y z w = absurd (omega (arith, eqb-true n 2 y, eqb-true n 4 w))
-once false true false false n s x y z w = omega arith
-once false false true true n s x y z w = absurd (omega (arith, eqb-true n 3 z, eqb-true n 4 w))
-once false false true false n s x y z w = omega arith
-once false false false true n s x y z w = omega arith
-once false false false false n s x y z w = omega arith
-
-all_weigh : (fs : List Item) → weight 1 fs + weight 2 fs + weight 3 fs + weight 4 fs ≤ span fs
-all_weigh [] = omega arith
-all_weigh (f ∷ fs) = omega (arith, all_weigh fs, once (eqb f.number 1) (eqb f.number 2) (eqb f.number 3) (eqb f.number 4) f.number (f.end - f.at) refl refl refl refl)
-
--- ---- what is known of each payload
-
-combine : {X : Type 0} {P Q R : X → Type 0} (xs : List X) → ((x : X) → P x → Q x → R x) → AllByRecursion P xs → AllByRecursion Q xs → AllByRecursion R xs
-combine [] f ps qs = tt
-combine (x ∷ xs) f ps qs = (f x ps.0 qs.0, combine xs f ps.1 qs.1)
-
-below_step : (b : Bool) (k long : ℕ) (c : Content) (texts : List (List ℕ)) → IsSized k long c → AllByRecursion Below texts → AllByRecursion Below (cond b (bytes_in c) [] ++ texts)
-below_step true k long (AVarint n) texts is all = all
-below_step true k long (AFixed64 n) texts is all = all
-below_step true k long (ALen text) texts is all = (is.1, all)
-below_step true k long (AFixed32 n) texts is all = all
-below_step false k long c texts is all = all
-
-payloads_below : (k : ℕ) (fs : List Item) → AreSized fs → AllByRecursion Below (payloads k fs)
-payloads_below k [] are = tt
-payloads_below k (f ∷ fs) are = below_step (eqb f.number k) f.number (f.end - f.at) f.content (payloads k fs) are.0 (payloads_below k fs are.1)
-
-not_earlier : (a b : Option ℕ) → earlier a b ≡ None → (a ≡ None) × (b ≡ None)
-not_earlier None b e = (refl, e)
-not_earlier (Some x) None e = absurd cc
-not_earlier (Some x) (Some y) e = absurd cc
-
--- no bad place, wherever the message stands
-abbrev IsWhole : (ℕ → List ℕ → Option ℕ) → List ℕ → Type 0
-IsWhole bad_message text = (p : ℕ) × (bad_message p text ≡ None)
-
-whole_step : (b : Bool) (bad_message : ℕ → List ℕ → Option ℕ) (f : Item) (c : Content) (texts : List (List ℕ)) → cond b (look_in (embedded bad_message) f c) None ≡ None → AllByRecursion (IsWhole bad_message) texts
-    → AllByRecursion (IsWhole bad_message) (cond b (bytes_in c) [] ++ texts)
-whole_step true bad_message f (AVarint n) texts e all = all
-whole_step true bad_message f (AFixed64 n) texts e all = all
-whole_step true bad_message f (ALen text) texts e all = ((f.end - length text, e), all)
-whole_step true bad_message f (AFixed32 n) texts e all = all
-whole_step false bad_message f c texts e all = all
-
-payloads_whole : (k : ℕ) (bad_message : ℕ → List ℕ → Option ℕ) (fs : List Item) → in_number k (embedded bad_message) fs ≡ None → AllByRecursion (IsWhole bad_message) (payloads k fs)
-payloads_whole k bad_message [] e = tt
-payloads_whole k bad_message (f ∷ fs) e =
-    let both = not_earlier (cond (eqb f.number k) (look_in (embedded bad_message) f f.content) None) (in_number k (embedded bad_message) fs) e in
-    whole_step (eqb f.number k) bad_message f f.content (payloads k fs) both.0 (payloads_whole k bad_message fs both.1)
-
--- ---- limits that are not passed
-
-both_none : (a b : Option Limit) → option_or a b ≡ None → (a ≡ None) × (b ≡ None)
-both_none None b e = (refl, e)
-both_none (Some x) b e = absurd cc
-
-not_when : (b : Bool) (l : Limit) → when b l ≡ None → b ≡ false
-not_when true l e = absurd cc
-not_when false l e = refl
-
-each_within : {M : Type 0} (lim : M → Option Limit) (read : List ℕ → M) (texts : List (List ℕ)) → first_some (map lim (map read texts)) ≡ None → AllByRecursion (λ text. lim (read text) ≡ None) texts
-each_within lim read [] e = tt
-each_within lim read (t ∷ ts) e = let both = both_none (lim (read t)) (first_some (map lim (map read ts))) e in (both.0, each_within lim read ts both.1)
-
-abbrev known : ℤ → Bool
-known z = is_known_kind (record { key = []; value = None; kind = z; expire_at_ms = pos 0 })
-
--- a kind that is known is not negative
-known_is : (z : ℤ) → not (known z) ≡ false → (n : ℕ) × (z ≡ pos n)
-known_is (pos n) e = (n, refl)
-known_is (negsuc n) e = absurd cc
+use Rattle.dkv_msgs.specs.Spellings.{all_delimited}
+use Rattle.dkv_msgs.proofs.Short.{AreSized, delimited_length, int32_short, int32_known, bytes_short, number_short, int64_short, texts_short, numbers_short, same_payloads}
+use Rattle.dkv_msgs.proofs.WholePayloads.{all_weigh, combine, payloads_below, not_earlier, IsWhole, payloads_whole, both_none, not_when, each_within, known, known_is}
 
 -- ---- messages
 
@@ -136,34 +55,34 @@ joined_sized (t ∷ ts) below whole =
     record { each = sized-append (fields 0 t) gs first.each others.each; total = omega (arith, span-append (fields 0 t) gs, first.total, others.total) }
 
 -- several payloads have several tags and lengths
-all_parts : (k : ℕ) (t : List ℕ) (ts : List (List ℕ)) → length (varint (k * 8 + 2)) + length (varint (long (t ∷ ts))) + long (t ∷ ts) ≤ length (flat_map (part k) (t ∷ ts))
-all_parts k t [] =
+joined_length : (k : ℕ) (t : List ℕ) (ts : List (List ℕ)) → length (varint (k * 8 + 2)) + length (varint (long (t ∷ ts))) + long (t ∷ ts) ≤ length (flat_map (delimited k) (t ∷ ts))
+joined_length k t [] =
     let e : length t + 0 ≡ length t = omega arith in
-    omega (arith, part_length k t, length-append (part k t) [], ap (λ (n : ℕ). length (varint n)) e)
-all_parts k t (u ∷ ts) = omega (arith, all_parts k u ts, part_length k t, size_sum (length t) (long (u ∷ ts)), length-append (part k t) (flat_map (part k) (u ∷ ts)))
+    omega (arith, delimited_length k t, length-append (delimited k t) [], ap (λ (n : ℕ). length (varint n)) e)
+joined_length k t (u ∷ ts) = omega (arith, joined_length k u ts, delimited_length k t, size_sum (length t) (long (u ∷ ts)), length-append (delimited k t) (flat_map (delimited k) (u ∷ ts)))
 
 value_short : (texts : List (List ℕ)) → AllByRecursion Below texts → AllByRecursion (IsWhole bad) texts
-    → length (option_map_or (λ v. part 2 (spell_value v)) (if_given texts (kv_value (flat_map (λ text. fields 0 text) texts))) []) ≤ length (flat_map (part 2) texts) + 6
+    → length (option_map_or (λ v. delimited 2 (spell_value v)) (if_given texts (kv_value (flat_map (λ text. fields 0 text) texts))) []) ≤ length (flat_map (delimited 2) texts) + 6
 value_short [] below whole = omega arith
 value_short (t ∷ ts) below whole =
     let fs = flat_map (λ text. fields 0 text) (t ∷ ts) in
     let s = joined_sized (t ∷ ts) below whole in
     let v = kv_value fs in
     let few : length (spell_value v) ≤ long (t ∷ ts) + 5 = omega (arith, bytes_short 1 fs s.each, number_short 2 fs s.each, int32_short 2 (last_number 2 fs), all_weigh fs, s.total, length-append (bytes_field 1 v.bytes) (number_field 2 (unsigned v.encoding))) in
-    omega (arith, few, part_length 2 (spell_value v), size_rises (length (spell_value v)) (long (t ∷ ts) + 5) few, size_step (long (t ∷ ts)) 5 (omega arith), all_parts 2 t ts)
+    omega (arith, few, delimited_length 2 (spell_value v), size_rises (length (spell_value v)) (long (t ∷ ts) + 5) few, size_step (long (t ∷ ts)) 5 (omega arith), joined_length 2 t ts)
 
-mutation_short : (text : List ℕ) → Below text → IsWhole bad_mutation text × (mutation_limit (mutation (fields 0 text)) ≡ None) → length (spell_mutation (mutation (fields 0 text))) ≤ length text + 6
+mutation_short : (text : List ℕ) → Below text → IsWhole bad_mutation text × (mutation_limit Narrow (mutation (fields 0 text)) ≡ None) → length (spell_mutation (mutation (fields 0 text))) ≤ length text + 6
 mutation_short text below given =
     let whole = given.0 in
     let fs = fields 0 text in
     let m = mutation fs in
-    let places = not_earlier (bad whole.0 text) (in_number 2 (embedded bad) (fields whole.0 text)) whole.1 in
+    let places = not_earlier (bad whole.0 text) (in_fields 2 (embedded bad) (fields whole.0 text)) whole.1 in
     let s = sized whole.0 0 text below places.0 in
     let wholes = subst (AllByRecursion (IsWhole bad)) (same_payloads 2 whole.0 0 text) (payloads_whole 2 bad (fields whole.0 text) places.1) in
-    let row = both_none (when (not (is_known_kind m)) limit.MutationKind) (first_some (when (is_bad_mutation_key m) limit.MutationKey ∷ cond (is_kind kind_delete m) None (value_limit m) ∷ [])) given.1 in
+    let row = both_none (when (not (is_known_kind m)) limit.MutationKind) (first_some (when (is_bad_mutation_key m) limit.MutationKey ∷ cond (is_kind DELETE m) None (value_limit Narrow m) ∷ [])) given.1 in
     let kind = known_is m.kind (not_when (not (known m.kind)) limit.MutationKind row.0) in
     let key = bytes_field 1 m.key in
-    let value = option_map_or (λ v. part 2 (spell_value v)) m.value [] in
+    let value = option_map_or (λ v. delimited 2 (spell_value v)) m.value [] in
     let third = number_field 3 (unsigned m.kind) in
     let fourth = number_field 4 (unsigned m.expire_at_ms) in
     omega (
@@ -181,12 +100,12 @@ mutation_short text below given =
       length-append key value,
     )
 
-enqueue_short : (text : List ℕ) → Below text → IsWhole bad_enqueue text × (enqueue_limit (enqueue (fields 0 text)) ≡ None) → length (spell_enqueue (enqueue (fields 0 text))) ≤ length text + 1
+enqueue_short : (text : List ℕ) → Below text → IsWhole bad_enqueue text × (enqueue_limit Narrow (enqueue (fields 0 text)) ≡ None) → length (spell_enqueue (enqueue (fields 0 text))) ≤ length text + 1
 enqueue_short text below given =
     let whole = given.0 in
     let fs = fields 0 text in
     let q = enqueue fs in
-    let places = not_earlier (bad whole.0 text) (in_number 4 packed (fields whole.0 text)) whole.1 in
+    let places = not_earlier (bad whole.0 text) (in_fields 4 packed (fields whole.0 text)) whole.1 in
     let s = sized whole.0 0 text below places.0 in
     let later = first_some (map interval_limit q.backoff) ∷ when (nat_lt 10 (length q.undelivered)) limit.UndeliveredCount ∷ first_some (map undelivered_limit q.undelivered) ∷ [] in
     let first = both_none (when (nat_lt 65536 (length q.payload)) limit.PayloadLength) (first_some (when (nat_lt 10 (length q.backoff)) limit.BackoffCount ∷ later)) given.1 in
@@ -194,7 +113,7 @@ enqueue_short text below given =
     let few = ltb-false 10 (length q.backoff) (not_when (nat_lt 10 (length q.backoff)) limit.BackoffCount row.0) in
     let payload = bytes_field 1 q.payload in
     let deadline = number_field 2 (unsigned q.deadline_ms) in
-    let undelivered = flat_map (part 3) q.undelivered in
+    let undelivered = flat_map (delimited 3) q.undelivered in
     let backoff = numbers_field 4 q.backoff in
     omega (
       arith,
@@ -212,7 +131,7 @@ enqueue_short text below given =
 -- ---- messages in a row
 
 texts_grow : {M : Type 0} (k extra grown : ℕ) (spell : M → List ℕ) (read : List ℕ → M) (texts : List (List ℕ)) → ((n : ℕ) → length (varint (n + extra)) ≤ length (varint n) + grown)
-    → AllByRecursion (λ text. length (spell (read text)) ≤ length text + extra) texts → length (parts_of k spell (map read texts)) ≤ length (flat_map (part k) texts) + (extra + grown) * length texts
+    → AllByRecursion (λ text. length (spell (read text)) ≤ length text + extra) texts → length (all_delimited k spell (map read texts)) ≤ length (flat_map (delimited k) texts) + (extra + grown) * length texts
 texts_grow k extra grown spell read [] step each = omega arith
 texts_grow k extra grown spell read (t ∷ ts) step each =
     let b = spell (read t) in
@@ -222,10 +141,10 @@ texts_grow k extra grown spell read (t ∷ ts) step each =
       each.0,
       step (length t),
       size_rises (length b) (length t + extra) each.0,
-      part_length k b,
-      part_length k t,
-      length-append (part k b) (parts_of k spell (map read ts)),
-      length-append (part k t) (flat_map (part k) ts),
+      delimited_length k b,
+      delimited_length k t,
+      length-append (delimited k b) (all_delimited k spell (map read ts)),
+      length-append (delimited k t) (flat_map (delimited k) ts),
     )
 
 read_is : (place : Option ℕ) (w v : AtomicWrite) → unless_bad place w ≡ Ok v → (place ≡ None) × (w ≡ v)
@@ -235,14 +154,14 @@ read_is (Some p) w v e = absurd cc
 -- of the write that bytes are read as
 record Within (w : AtomicWrite) : Type 0 where
   count : length w.mutations + length w.enqueues ≤ 1000
-  mutations : first_some (map mutation_limit w.mutations) ≡ None
-  enqueues : first_some (map enqueue_limit w.enqueues) ≡ None
+  mutations : first_some (map (mutation_limit Narrow) w.mutations) ≡ None
+  enqueues : first_some (map (enqueue_limit Narrow) w.enqueues) ≡ None
 
 within : (w : AtomicWrite) → write_limit w ≡ None → Within w
 within w e =
     let totals = when (nat_lt 819200 (all_bytes w)) limit.TotalBytes ∷ when (nat_lt 81920 (key_bytes w)) limit.TotalKeyBytes ∷ [] in
-    let enqueues = first_some (map enqueue_limit w.enqueues) in
-    let mutations = first_some (map mutation_limit w.mutations) in
+    let enqueues = first_some (map (enqueue_limit Narrow) w.enqueues) in
+    let mutations = first_some (map (mutation_limit Narrow) w.mutations) in
     let checks = first_some (map check_limit w.checks) in
     let many = when (nat_lt 1000 (length w.mutations + length w.enqueues)) limit.TooManyMutations in
     let a = both_none (when (nat_lt 100 (length w.checks)) limit.TooManyChecks) (first_some (many ∷ checks ∷ mutations ∷ enqueues ∷ totals)) e in
@@ -262,20 +181,20 @@ read_short : (body : List ℕ) → Below body → bad_atomic_write 0 body ≡ No
 read_short body below whole limits =
     let fs = fields 0 body in
     let w = atomic_write fs in
-    let p0 = not_earlier (bad 0 body) (earlier (in_number 1 (embedded bad) fs) (earlier (in_number 2 (embedded bad_mutation) fs) (in_number 3 (embedded bad_enqueue) fs))) whole in
-    let p1 = not_earlier (in_number 1 (embedded bad) fs) (earlier (in_number 2 (embedded bad_mutation) fs) (in_number 3 (embedded bad_enqueue) fs)) p0.1 in
-    let p2 = not_earlier (in_number 2 (embedded bad_mutation) fs) (in_number 3 (embedded bad_enqueue) fs) p1.1 in
+    let p0 = not_earlier (bad 0 body) (earlier (in_fields 1 (embedded bad) fs) (earlier (in_fields 2 (embedded bad_mutation) fs) (in_fields 3 (embedded bad_enqueue) fs))) whole in
+    let p1 = not_earlier (in_fields 1 (embedded bad) fs) (earlier (in_fields 2 (embedded bad_mutation) fs) (in_fields 3 (embedded bad_enqueue) fs)) p0.1 in
+    let p2 = not_earlier (in_fields 2 (embedded bad_mutation) fs) (in_fields 3 (embedded bad_enqueue) fs) p1.1 in
     let s = sized 0 0 body below p0.0 in
     let rows = within w limits in
     let cs = payloads 1 fs in
     let ms = payloads 2 fs in
     let qs = payloads 3 fs in
     let checks = combine cs check_short (payloads_below 1 fs s.each) (payloads_whole 1 bad fs p1.0) in
-    let mutations = combine ms mutation_short (payloads_below 2 fs s.each) (combine ms (λ text a b. (a, b)) (payloads_whole 2 bad_mutation fs p2.0) (each_within mutation_limit (λ text. mutation (fields 0 text)) ms rows.mutations)) in
-    let enqueues = combine qs enqueue_short (payloads_below 3 fs s.each) (combine qs (λ text a b. (a, b)) (payloads_whole 3 bad_enqueue fs p2.1) (each_within enqueue_limit (λ text. enqueue (fields 0 text)) qs rows.enqueues)) in
-    let first = parts_of 1 spell_check w.checks in
-    let second = parts_of 2 spell_mutation w.mutations in
-    let third = parts_of 3 spell_enqueue w.enqueues in
+    let mutations = combine ms mutation_short (payloads_below 2 fs s.each) (combine ms (λ text a b. (a, b)) (payloads_whole 2 bad_mutation fs p2.0) (each_within (mutation_limit Narrow) (λ text. mutation (fields 0 text)) ms rows.mutations)) in
+    let enqueues = combine qs enqueue_short (payloads_below 3 fs s.each) (combine qs (λ text a b. (a, b)) (payloads_whole 3 bad_enqueue fs p2.1) (each_within (enqueue_limit Narrow) (λ text. enqueue (fields 0 text)) qs rows.enqueues)) in
+    let first = all_delimited 1 spell_check w.checks in
+    let second = all_delimited 2 spell_mutation w.mutations in
+    let third = all_delimited 3 spell_enqueue w.enqueues in
     omega (
       arith,
       texts_grow 1 0 0 spell_check (λ text. check (fields 0 text)) cs same_size checks,

@@ -1,17 +1,18 @@
 -- What written bytes show: which fields they are, wherever they stand and whatever comes behind them.
 --     Shown bytes gs      the bytes are the fields of the groups gs, each a number and what its fields hold in order
 --     held_by_shown, bad_shown      what the fields of a number hold, and that each field begins where the last one ended
-use Rattle.std.proofs.Common.{◌≡◌, ℕ, ◌+◌, ◌*◌, ◌<◌, ◌≤◌, Bool, true, false, cond, eqb, List, [], ◌∷◌, ◌++◌, length, map, None, refl, sym, ap, ◌∙◌, append_assoc, arith, length-append}
+use Rattle.std.proofs.Common.{◌≡◌, ℕ, ◌+◌, ◌*◌, ◌<◌, Bool, true, false, cond, eqb, List, [], ◌∷◌, ◌++◌, length, map, None, refl, sym, ap, ◌∙◌, append_assoc, arith, length-append}
 use Rattle.std.specs.List.{flat_map, AllByRecursion}
 use Rattle.std.proofs.lemmas.List.{append-nil}
 use Rattle.std.proofs.lemmas.List.Concat.{flat_map-append}
 use Rattle.std.proofs.lemmas.List.Folds.{flat_map-map}
-use Rattle.dkv_base.specs.Spelling.{varint, part, number_field, bytes_field}
-use Rattle.dkv_wire.specs.Wire.{Item, Content, AVarint, ALen}
+use Rattle.dkv_base.specs.Protobuf.{varint, delimited, number_field, bytes_field}
+use Rattle.dkv_wire.specs.Wire.{Item, Content, AVarint, ALen, IsFieldNumber}
 use Rattle.dkv_wire.specs.FieldLists.{fields, bad}
-use Rattle.dkv_wire.proofs.Written.{Before, before_part, before_number}
+use Rattle.dkv_wire.proofs.Written.{Before, before_delimited, before_number}
 use Rattle.dkv_wire.proofs.Steps.{fields_end, bad_end}
-use Rattle.dkv_msgs.specs.ByNumber.{held_by}
+use Rattle.dkv_msgs.specs.ByField.{held_by}
+use Rattle.dkv_msgs.specs.Spellings.{all_delimited}
 
 -- fields without their places
 abbrev pub contents : List Item → List (ℕ × Content)
@@ -62,18 +63,13 @@ nothing_shown k = record {
 
 -- ---- the fields that are written
 
--- a number of a field
-pub record IsNumber (k : ℕ) : Type 0 where
-  pub least : 1 ≤ k
-  pub most : k ≤ 536870911
-
 before_shows : (k : ℕ) (held : Content) (head : List ℕ) → ((at : ℕ) (rest : List ℕ) → Before at k held head rest) → Shows head ((k, held ∷ []) ∷ [])
 before_shows k held head before = record { items = λ at rest. ap contents (before at rest).fields; whole = λ at rest. (before at rest).bad }
 
-pub part_shown : (k : ℕ) (bytes : List ℕ) → IsNumber k → Shown (part k bytes) ((k, ALen bytes ∷ []) ∷ [])
-part_shown k bytes is lt =
+pub delimited_shown : (k : ℕ) (bytes : List ℕ) → IsFieldNumber k → Shown (delimited k bytes) ((k, ALen bytes ∷ []) ∷ [])
+delimited_shown k bytes is lt =
     let long : length bytes < 18446744073709551616 = omega (arith, lt, length-append (varint (k * 8 + 2) ++ varint (length bytes)) bytes, length-append (varint (k * 8 + 2)) (varint (length bytes) ++ bytes), length-append (varint (length bytes)) bytes) in
-    before_shows k (ALen bytes) (part k bytes) (λ at rest. before_part at k bytes rest is.least is.most long)
+    before_shows k (ALen bytes) (delimited k bytes) (λ at rest. before_delimited at k bytes rest is long)
 
 abbrev pub bytes_content : List ℕ → List Content
 bytes_content [] = []
@@ -82,32 +78,29 @@ bytes_content (b ∷ bs) = ALen (b ∷ bs) ∷ []
 abbrev pub number_content : ℕ → List Content
 number_content n = cond (eqb n 0) [] (AVarint n ∷ [])
 
-pub bytes_shown : (k : ℕ) (bytes : List ℕ) → IsNumber k → Shown (bytes_field k bytes) ((k, bytes_content bytes) ∷ [])
+pub bytes_shown : (k : ℕ) (bytes : List ℕ) → IsFieldNumber k → Shown (bytes_field k bytes) ((k, bytes_content bytes) ∷ [])
 bytes_shown k [] is lt = nothing_shown k
-bytes_shown k (b ∷ bs) is lt = part_shown k (b ∷ bs) is lt
+bytes_shown k (b ∷ bs) is lt = delimited_shown k (b ∷ bs) is lt
 
-number_if : (b : Bool) (k n : ℕ) → IsNumber k → n < 18446744073709551616 → Shows (cond b [] (varint (k * 8) ++ varint n)) ((k, cond b [] (AVarint n ∷ [])) ∷ [])
+number_if : (b : Bool) (k n : ℕ) → IsFieldNumber k → n < 18446744073709551616 → Shows (cond b [] (varint (k * 8) ++ varint n)) ((k, cond b [] (AVarint n ∷ [])) ∷ [])
 number_if true k n is lt = nothing_shown k
-number_if false k n is lt = before_shows k (AVarint n) (varint (k * 8) ++ varint n) (λ at rest. before_number at k n rest is.least is.most lt)
+number_if false k n is lt = before_shows k (AVarint n) (varint (k * 8) ++ varint n) (λ at rest. before_number at k n rest is lt)
 
-pub number_shown : (k n : ℕ) → IsNumber k → n < 18446744073709551616 → Shown (number_field k n) ((k, number_content n) ∷ [])
+pub number_shown : (k n : ℕ) → IsFieldNumber k → n < 18446744073709551616 → Shown (number_field k n) ((k, number_content n) ∷ [])
 number_shown k n is fits lt = number_if (eqb n 0) k n is fits
 
-abbrev pub parts_of : {X : Type 0} → ℕ → (X → List ℕ) → List X → List ℕ
-parts_of k f xs = flat_map (λ x. part k (f x)) xs
-
-pub parts_shown : {X : Type 0} (k : ℕ) (f : X → List ℕ) (xs : List X) → IsNumber k → Shown (parts_of k f xs) ((k, map (λ x. ALen (f x)) xs) ∷ [])
-parts_shown k f [] is lt = nothing_shown k
-parts_shown k f (x ∷ xs) is lt =
-    let one = both (part k (f x)) (parts_of k f xs) ((k, ALen (f x) ∷ []) ∷ []) ((k, map (λ x. ALen (f x)) xs) ∷ []) (part_shown k (f x) is) (parts_shown k f xs is) lt in
+pub all_delimited_shown : {X : Type 0} (k : ℕ) (f : X → List ℕ) (xs : List X) → IsFieldNumber k → Shown (all_delimited k f xs) ((k, map (λ x. ALen (f x)) xs) ∷ [])
+all_delimited_shown k f [] is lt = nothing_shown k
+all_delimited_shown k f (x ∷ xs) is lt =
+    let one = both (delimited k (f x)) (all_delimited k f xs) ((k, ALen (f x) ∷ []) ∷ []) ((k, map (λ x. ALen (f x)) xs) ∷ []) (delimited_shown k (f x) is) (all_delimited_shown k f xs is) lt in
     record { items = one.items; whole = one.whole }
 
 -- the payloads are no longer than all of the bytes
-pub parts_small : {X : Type 0} (k : ℕ) (f : X → List ℕ) (xs : List X) (n : ℕ) → length (parts_of k f xs) < n → AllByRecursion (λ x. length (f x) < n) xs
-parts_small k f [] n lt = tt
-parts_small k f (x ∷ xs) n lt = (
-  omega (arith, lt, length-append (part k (f x)) (parts_of k f xs), length-append (varint (k * 8 + 2) ++ varint (length (f x))) (f x), length-append (varint (k * 8 + 2)) (varint (length (f x)) ++ f x), length-append (varint (length (f x))) (f x)),
-  parts_small k f xs n (omega (arith, lt, length-append (part k (f x)) (parts_of k f xs))),
+pub all_delimited_small : {X : Type 0} (k : ℕ) (f : X → List ℕ) (xs : List X) (n : ℕ) → length (all_delimited k f xs) < n → AllByRecursion (λ x. length (f x) < n) xs
+all_delimited_small k f [] n lt = tt
+all_delimited_small k f (x ∷ xs) n lt = (
+  omega (arith, lt, length-append (delimited k (f x)) (all_delimited k f xs), length-append (varint (k * 8 + 2) ++ varint (length (f x))) (f x), length-append (varint (k * 8 + 2)) (varint (length (f x)) ++ f x), length-append (varint (length (f x))) (f x)),
+  all_delimited_small k f xs n (omega (arith, lt, length-append (delimited k (f x)) (all_delimited k f xs))),
 )
 
 -- ---- what is read of them

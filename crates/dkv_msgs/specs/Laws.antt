@@ -1,41 +1,27 @@
 -- Laws of spellings, as statements.
-use Rattle.std.specs.Prelude.{◌≡◌, ℕ, pos, true, false, ◌^◌, ◌<◌, List, [], length, map, Result, Ok}
-use Rattle.dkv_base.specs.declared.types.Entry.{Entry}
-use Rattle.dkv_base.specs.Pipe.{spell_read, spell_written, spell_fails}
-use Rattle.dkv_base.specs.Stamps.{stamp}
-use Rattle.dkv_msgs.specs.declared.types.AtomicWriteOutput.{AtomicWriteOutput}
-use Rattle.dkv_msgs.specs.declared.types.KvEntry.{KvEntry}
-use Rattle.dkv_msgs.specs.declared.types.SnapshotReadOutput.{SnapshotReadOutput}
-use Rattle.dkv_msgs.specs.Spellings.{spell_snapshot_read_output, spell_atomic_write_output}
+use Rattle.std.specs.Prelude.{◌≡◌, ℕ, ◌+◌, ◌^◌, ◌<◌, ◌≤◌, List, length, None, Result, Ok}
+use Rattle.dkv_base.specs.declared.types.AtomicWrite.{AtomicWrite}
+use Rattle.dkv_base.specs.Fits.{FitsWrite, AreBytes}
+use Rattle.dkv_base.specs.Limits.{write_limit}
+use Rattle.dkv_base.specs.Spelling.{spell_write}
 
--- What is spelled in as many bytes as memory holds reads as what it was.
+-- what is spelled in as many bytes as memory holds reads as what it was
 abbrev pub ReadsBack : {M : Type 0} → (M → Type 0) → (M → List ℕ) → (List ℕ → Result M ℕ) → Type 0
-ReadsBack {M} Fits spell reads = (m : M) → Fits m → length (spell m) < 2 ^ 63 → reads (spell m) ≡ Ok m
+ReadsBack {M} Fits spell reads =
+    (m : M) → Fits m → length (spell m) < 2 ^ 63 → reads (spell m) ≡ Ok m
 
--- Messages with one spelling are one message.
+-- messages with one spelling are one message
 abbrev pub OneSpelling : {M : Type 0} → (M → Type 0) → (M → List ℕ) → Type 0
-OneSpelling {M} Fits spell = (m n : M) → Fits m → Fits n → length (spell m) < 2 ^ 63 → spell m ≡ spell n → m ≡ n
+OneSpelling {M} Fits spell =
+    (m n : M) → Fits m → Fits n → length (spell m) < 2 ^ 63 → spell m ≡ spell n → m ≡ n
 
--- ---- what the database answers, as messages
+-- the canonical spelling of a write within its limits is at most 7,000 bytes longer than any bytes that read as it
+abbrev pub SpellsShort : (List ℕ → Result AtomicWrite ℕ) → Type 0
+SpellsShort reads =
+    (body : List ℕ) (w : AtomicWrite) → AreBytes body → reads body ≡ Ok w → write_limit w ≡ None
+    → length (spell_write w) ≤ length body + 7000
 
--- an entry, told with the stamp of the commit that wrote it
-abbrev pub told : Entry → KvEntry
-told e = record { key = e.key; value = e.bytes; encoding = e.encoding; versionstamp = stamp e.commit }
-
--- strongly consistent, with status 1
-abbrev pub read_told : List (List Entry) → SnapshotReadOutput
-read_told ranges = record { ranges = map (λ es. map told es) ranges; read_disabled = false; strong = true; status = pos 1 }
-
--- status 1 and the stamp
-abbrev pub written_told : ℕ → AtomicWriteOutput
-written_told n = record { status = pos 1; versionstamp = stamp n; failed_checks = [] }
-
--- status 2 and the places
-abbrev pub fails_told : List ℕ → AtomicWriteOutput
-fails_told places = record { status = pos 2; versionstamp = []; failed_checks = places }
-
--- The replies are these messages, in their canonical spelling.
-pub record AreReplies : Type 0 where
-  pub read : (ranges : List (List Entry)) → spell_snapshot_read_output (read_told ranges) ≡ spell_read ranges
-  pub written : (n : ℕ) → spell_atomic_write_output (written_told n) ≡ spell_written n
-  pub fails : (places : List ℕ) → spell_atomic_write_output (fails_told places) ≡ spell_fails places
+-- a write that fits its types, spelled in as many bytes as memory holds, reads as what it was
+abbrev pub SpellsAndReads : (List ℕ → Result AtomicWrite ℕ) → Type 0
+SpellsAndReads reads =
+    (w : AtomicWrite) → FitsWrite w → length (spell_write w) < 2 ^ 63 → reads (spell_write w) ≡ Ok w

@@ -1,8 +1,9 @@
-pub mod ByNumber
+pub mod ByField
 pub mod Fits
 pub mod Laws
 pub mod Kinds
 pub mod Messages
+pub mod Outputs
 pub mod Places
 pub mod Readings
 pub mod Sources

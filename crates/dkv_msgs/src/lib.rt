@@ -1,27 +1,26 @@
 //! The messages of KV Connect, read from Protobuf and written as Protobuf.
 //!
-//! A body is read as the proto3 encoding guide says: unknown fields are skipped, the last of a singular field counts, and
-//! the parts of a singular message are joined. A body that is no message is refused at the first place where no field
-//! begins. A message is written in its one canonical spelling, which reads as the message again.
+//! A body is read as the proto3 encoding guide says: unknown fields are skipped, the last of a
+//! singular field counts, and the pieces of a singular message are joined. A body that is no message
+//! is refused at the first place where no field begins. A message is written in its one canonical
+//! spelling, which reads as the message again.
 #![tactic(auto)]
 
 mod laws;
 mod read;
-mod read_by_number;
+mod read_fields;
 mod read_messages;
 mod read_places;
 mod read_source;
-#[cfg(test)]
-mod read_tests;
 mod replies;
+#[cfg(test)]
+mod tests;
 mod types;
 mod write;
 mod write_fields;
-mod write_parts;
-#[cfg(test)]
-mod write_tests;
+mod write_messages;
 
-pub use laws::{one_spelling, reads_back, replies_are_messages, spelled_short};
+pub use laws::{one_spelling, reads_back, spelled_short};
 pub use read::{
     ReadError, read_atomic_write, read_atomic_write_output, read_snapshot_read,
     read_snapshot_read_output, read_watch, read_watch_output,

@@ -1,19 +1,23 @@
+// The messages of requests and replies, as they are read.
 ghost use Rattle.std.specs.Prelude.{◌≡◌};
 ghost use Rattle.dkv_msgs.specs.Readings.{IsReading, reads_snapshot_read, reads_snapshot_read_output, reads_atomic_write, reads_atomic_write_output, reads_watch, reads_watch_output};
 
-use crate::read_by_number::{last_bytes, last_number, numbers};
+use crate::read_fields::{last_bytes, last_number, numbers};
 use crate::read_messages::{each, low_signed};
 use crate::read_places::{Kind, first_bad};
 use crate::types::{AtomicWriteOutput, SnapshotRead, SnapshotReadOutput, Watch, WatchOutput};
 use dkv_base::{AtomicWrite, Bytes, NoMemory};
 use std::alloc::Global;
+use thiserror::Error;
 
 /// Why a body was not read.
-#[derive(Clone, Copy, Debug, PartialEq, Eq)]
+#[derive(Clone, Copy, Debug, Error, PartialEq, Eq)]
 pub enum ReadError {
-    /// The body is no message: at this place, counted in bytes from the start of the body, no field begins.
+    /// The body is no message: at this place, in bytes from its start, no field begins.
+    #[error("no field begins at byte {at}")]
     Malformed { at: u64 },
     /// The allocator had no room.
+    #[error("no memory")]
     NoMemory,
 }
 

@@ -1,16 +1,18 @@
+// The messages that stand inside others, as they are read.
 ghost use Rattle.std.specs.Prelude.{◌≡◌, IfOk};
 ghost use Rattle.dkv_wire.specs.FieldLists.{fields};
-ghost use Rattle.dkv_msgs.specs.ByNumber.{int32, int64};
+ghost use Rattle.dkv_msgs.specs.ByField.{int32, int64};
 ghost use Rattle.dkv_msgs.specs.Messages.{each_of, one_of, kv_value, kv_entry};
 ghost use Rattle.dkv_msgs.specs.Sources.{source_fields};
 
-use crate::read_by_number::{Payloads, all_bytes, last_bytes, last_number, numbers};
+use crate::read_fields::{Payloads, all_bytes, last_bytes, last_number, numbers};
 use crate::read_source::Source;
 use crate::types::{KvEntry, WatchKeyOutput};
 use dkv_base::{Bytes, Check, Enqueue, Mutation, NoMemory, ReadRange, Run, Value};
 use std::alloc::Global;
 
-// What the payload of an embedded message is read as. A payload that is not whole fields is read as those it begins with.
+// What the payload of an embedded message is read as. One that is not whole fields is read as those
+// that it begins with.
 pub(crate) trait Embedded: Sized {
     ghost use Rattle.std.specs.Prelude.{List};
     ghost use Rattle.dkv_wire.specs.Wire.{Item};
@@ -21,22 +23,18 @@ pub(crate) trait Embedded: Sized {
         ensures { IfOk result (λ m. m ≡ read_of (fields 0 bytes.now)) };
 }
 
-// The messages of a number, in order.
+// The messages in a field, in order.
 pub(crate) fn each<M: Embedded + Drop>(
     alloc: Global,
-    number: u32,
+    field: u32,
     bytes: &[u8],
 ) -> Result<Run<M>, NoMemory>
-    ensures { IfOk result (λ ms. ms ≡ each_of M.read_of number (fields 0 bytes.now)) }
+    ensures { IfOk result (λ ms. ms ≡ each_of M.read_of field (fields 0 bytes.now)) }
 {
     let mut all = Run::new(alloc);
-    let mut texts = Payloads::new(number, bytes);
+    let mut texts = Payloads::new(field, bytes);
     while let Some(text) = texts.next() {
-        let message = M::read(alloc, text)?;
-        match all.push(message) {
-            Ok(()) => {}
-            Err(_) => return Err(NoMemory),
-        }
+        all.add(M::read(alloc, text)?)?;
     }
     Ok(all)
 }
@@ -63,13 +61,13 @@ fn value_of(alloc: Global, source: Source) -> Result<Value, NoMemory>
     })
 }
 
-// The value of a number, if it is given, from all its pieces.
-fn given_value(alloc: Global, number: u32, bytes: &[u8]) -> Result<Option<Value>, NoMemory>
-    ensures { IfOk result (λ v. v ≡ one_of kv_value number (fields 0 bytes.now)) }
+// The value in a field, if it is given, from all its pieces.
+fn given_value(alloc: Global, field: u32, bytes: &[u8]) -> Result<Option<Value>, NoMemory>
+    ensures { IfOk result (λ v. v ≡ one_of kv_value field (fields 0 bytes.now)) }
 {
-    match Payloads::new(number, bytes).next() {
+    match Payloads::new(field, bytes).next() {
         None => Ok(None),
-        Some(_) => Ok(Some(value_of(alloc, Source::Pieces(number, bytes))?)),
+        Some(_) => Ok(Some(value_of(alloc, Source::Pieces(field, bytes))?)),
     }
 }
 
@@ -85,13 +83,13 @@ fn entry_of(alloc: Global, source: Source) -> Result<KvEntry, NoMemory>
     })
 }
 
-// The entry of a number, if it is given, from all its pieces.
-fn given_entry(alloc: Global, number: u32, bytes: &[u8]) -> Result<Option<KvEntry>, NoMemory>
-    ensures { IfOk result (λ e. e ≡ one_of kv_entry number (fields 0 bytes.now)) }
+// The entry in a field, if it is given, from all its pieces.
+fn given_entry(alloc: Global, field: u32, bytes: &[u8]) -> Result<Option<KvEntry>, NoMemory>
+    ensures { IfOk result (λ e. e ≡ one_of kv_entry field (fields 0 bytes.now)) }
 {
-    match Payloads::new(number, bytes).next() {
+    match Payloads::new(field, bytes).next() {
         None => Ok(None),
-        Some(_) => Ok(Some(entry_of(alloc, Source::Pieces(number, bytes))?)),
+        Some(_) => Ok(Some(entry_of(alloc, Source::Pieces(field, bytes))?)),
     }
 }
 
@@ -170,7 +168,7 @@ impl Embedded for KvEntry {
     ghost read_of = { kv_entry };
 
     fn read(alloc: Global, bytes: &[u8]) -> Result<KvEntry, NoMemory> {
-        entry_of(alloc, Source::Whole(bytes))
+        entry_of(alloc, Source::Body(bytes))
     }
 }
 

@@ -1,6 +1,7 @@
+// Where a body is no message: the first place where no field begins, in it or inside it.
 ghost use Rattle.std.specs.Prelude.{◌≡◌, ◌==◌, if◌then◌else◌, ◌<◌, ◌+◌, ◌^◌, length};
 ghost use Rattle.dkv_msgs.specs.Places.{earlier};
-ghost use Rattle.dkv_msgs.specs.Kinds.{part_of, bad_part, bad_message};
+ghost use Rattle.dkv_msgs.specs.Kinds.{inside_of, inside_of_write, bad_inside, bad_message};
 
 use dkv_wire::{Fields, Payload, are_varints};
 
@@ -20,48 +21,52 @@ pub(crate) enum Kind {
     WatchOutput,
 }
 
-// What a payload is looked at as: nothing further, packed numbers, or a message.
+// What is inside a payload: nothing to look at, packed numbers, or a message.
 #[derive(Clone, Copy)]
-pub(crate) enum Part {
+pub(crate) enum Inside {
     Plain,
     Numbers,
     Message(Kind),
 }
 
-fn only(number: u32, wanted: u32, part: Part) -> Part
-    ensures { result ≡ (if number == wanted then part else Part.Plain) }
+fn only(field: u32, wanted: u32, inside: Inside) -> Inside
+    ensures { result ≡ (if field == wanted then inside else Inside.Plain) }
 {
-    if number == wanted { part } else { Part::Plain }
-}
-
-// What the field of a number is.
-fn part_of(kind: Kind, number: u32) -> Part
-    ensures { result ≡ part_of kind number }
-{
-    let flat = Part::Message(Kind::Flat);
-    match kind {
-        Kind::Flat => Part::Plain,
-        Kind::SnapshotRead => only(number, 1, flat),
-        Kind::Watch => only(number, 1, flat),
-        Kind::RangeOutput => only(number, 1, flat),
-        Kind::Mutation => only(number, 2, flat),
-        Kind::WatchKeyOutput => only(number, 2, flat),
-        Kind::Enqueue => only(number, 4, Part::Numbers),
-        Kind::AtomicWriteOutput => only(number, 4, Part::Numbers),
-        Kind::SnapshotReadOutput => only(number, 1, Part::Message(Kind::RangeOutput)),
-        Kind::WatchOutput => only(number, 2, Part::Message(Kind::WatchKeyOutput)),
-        Kind::AtomicWrite => part_of_write(number),
+    if field == wanted {
+        inside
+    } else {
+        Inside::Plain
     }
 }
 
-fn part_of_write(number: u32) -> Part
-    ensures { result ≡ part_of Kind.AtomicWrite number }
+// What is inside the payloads of a field.
+fn inside_of(kind: Kind, field: u32) -> Inside
+    ensures { result ≡ inside_of kind field }
 {
-    match number {
-        1 => Part::Message(Kind::Flat),
-        2 => Part::Message(Kind::Mutation),
-        3 => Part::Message(Kind::Enqueue),
-        _ => Part::Plain,
+    let flat = Inside::Message(Kind::Flat);
+    match kind {
+        Kind::Flat => Inside::Plain,
+        Kind::SnapshotRead => only(field, 1, flat),
+        Kind::Watch => only(field, 1, flat),
+        Kind::RangeOutput => only(field, 1, flat),
+        Kind::Mutation => only(field, 2, flat),
+        Kind::WatchKeyOutput => only(field, 2, flat),
+        Kind::Enqueue => only(field, 4, Inside::Numbers),
+        Kind::AtomicWriteOutput => only(field, 4, Inside::Numbers),
+        Kind::SnapshotReadOutput => only(field, 1, Inside::Message(Kind::RangeOutput)),
+        Kind::WatchOutput => only(field, 2, Inside::Message(Kind::WatchKeyOutput)),
+        Kind::AtomicWrite => inside_of_write(field),
+    }
+}
+
+fn inside_of_write(field: u32) -> Inside
+    ensures { result ≡ inside_of_write field }
+{
+    match field {
+        1 => Inside::Message(Kind::Flat),
+        2 => Inside::Message(Kind::Mutation),
+        3 => Inside::Message(Kind::Enqueue),
+        _ => Inside::Plain,
     }
 }
 
@@ -87,27 +92,27 @@ pub(crate) fn first_bad(kind: Kind, place: u64, bytes: &[u8]) -> Option<u64>
         match fields.next() {
             Err(malformed) => return earlier(least, Some(malformed.at)),
             Ok(None) => return least,
-            Ok(Some(field)) => {
-                if let Payload::Len(text) = field.payload {
+            Ok(Some(found)) => {
+                if let Payload::Len(text) = found.payload {
                     let begin = fields.place() - text.len() as u64;
-                    let part = part_of(kind, field.number);
-                    least = earlier(least, bad_inside(part, field.at, begin, text));
+                    let inside = inside_of(kind, found.number);
+                    least = earlier(least, bad_inside(inside, found.at, begin, text));
                 }
             }
         }
     }
 }
 
-// The first bad place inside a payload, which begins at this place. The field's tag is at the other.
+// The first bad place inside a payload, which begins at this place. Its field's tag is at the other.
 #[cycle(places)]
-fn bad_inside(part: Part, at: u64, place: u64, text: &[u8]) -> Option<u64>
+fn bad_inside(inside: Inside, at: u64, place: u64, text: &[u8]) -> Option<u64>
     requires { place + length text.now < 2 ^ 64 }
-    ensures { result ≡ bad_part part at place text.now }
+    ensures { result ≡ bad_inside inside at place text.now }
 {
-    match part {
-        Part::Plain => None,
-        Part::Numbers if are_varints(text) => None,
-        Part::Numbers => Some(at),
-        Part::Message(kind) => first_bad(kind, place, text),
+    match inside {
+        Inside::Plain => None,
+        Inside::Numbers if are_varints(text) => None,
+        Inside::Numbers => Some(at),
+        Inside::Message(kind) => first_bad(kind, place, text),
     }
 }

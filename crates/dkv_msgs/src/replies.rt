@@ -1,7 +1,7 @@
-//! What the database answers, as the reply that is sent.
-
-ghost use Rattle.std.specs.Prelude.{◌≡◌, IfOk};
-ghost use Rattle.dkv_base.specs.Pipe.{spell_entry, spell_entries, spell_read, spell_written, spell_fails};
+// What the database answers, as the reply that is sent.
+ghost use Rattle.std.specs.Prelude.{◌≡◌, IfOk, map};
+ghost use Rattle.dkv_msgs.specs.Outputs.{entry_output, entries_output, read_output, written_output, fails_output};
+ghost use Rattle.dkv_msgs.specs.Spellings.{spell_kv_entry, spell_range_output, spell_snapshot_read_output, spell_atomic_write_output};
 
 use crate::write_fields::{Spelled, add_bytes, add_messages, add_number, add_numbers, add_signed};
 use dkv_base::{Bytes, Entry, NoMemory, Run};
@@ -11,7 +11,7 @@ use std::alloc::Global;
 
 /// An entry is told with the stamp of the commit that wrote it.
 impl Spelled for Entry {
-    ghost spelling = { λ e. spell_entry e };
+    ghost spelling = { λ e. spell_kv_entry (entry_output e) };
 
     ghost fits = { λ _. Unit {0} };
 
@@ -27,7 +27,7 @@ impl Spelled for Entry {
 
 /// The entries of one range.
 impl Spelled for Run<Entry> {
-    ghost spelling = { λ es. spell_entries es };
+    ghost spelling = { λ es. spell_range_output (entries_output es) };
 
     ghost fits = { λ _. Unit {0} };
 
@@ -40,7 +40,7 @@ impl Spelled for Run<Entry> {
 
 /// The reply to a read: the entries of each range, strongly consistent, with status 1.
 pub fn read_reply(alloc: Global, ranges: Run<Run<Entry>>) -> Result<Bytes, NoMemory>
-    ensures { IfOk result (λ b. b ≡ spell_read ranges) }
+    ensures { IfOk result (λ b. b ≡ spell_snapshot_read_output (read_output ranges)) }
 {
     let mut out = Out::new(alloc);
     add_messages(alloc, &mut out, 1, ranges.as_slice())?;
@@ -51,7 +51,7 @@ pub fn read_reply(alloc: Global, ranges: Run<Run<Entry>>) -> Result<Bytes, NoMem
 
 /// The reply to a write that was made as commit n: status 1 and the commit's stamp.
 pub fn written_reply(alloc: Global, n: u64) -> Result<Bytes, NoMemory>
-    ensures { IfOk result (λ b. b ≡ spell_written n) }
+    ensures { IfOk result (λ b. b ≡ spell_atomic_write_output (written_output n)) }
 {
     let mut out = Out::new(alloc);
     add_number(&mut out, 1, 1)?;
@@ -61,7 +61,7 @@ pub fn written_reply(alloc: Global, n: u64) -> Result<Bytes, NoMemory>
 
 /// The reply to a write whose checks at these places failed: status 2 and the places.
 pub fn fails_reply(alloc: Global, failed: Run<u32>) -> Result<Bytes, NoMemory>
-    ensures { IfOk result (λ b. b ≡ spell_fails failed) }
+    ensures { IfOk result (λ b. b ≡ spell_atomic_write_output (fails_output failed)) }
 {
     let mut out = Out::new(alloc);
     add_number(&mut out, 1, 2)?;

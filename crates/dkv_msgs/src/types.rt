@@ -1,3 +1,4 @@
+// The messages of KV Connect that no other crate has.
 use dkv_base::{Bytes, ReadRange, Run};
 
 /// A request to read ranges of entries.

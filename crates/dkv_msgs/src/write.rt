@@ -1,9 +1,8 @@
-//! The messages of requests and replies, as they are written.
-
+// The messages of requests and replies, as they are written.
 ghost use Rattle.std.specs.Prelude.{◌≡◌, IfOk, Ok};
-ghost use Rattle.dkv_base.specs.Spelling.{spell_ranges, spell_write, spell_keys};
+ghost use Rattle.dkv_msgs.specs.Spellings.{spell_ranges, spell_keys, spell_snapshot_read_output, spell_atomic_write_output, spell_watch_output};
+ghost use Rattle.dkv_base.specs.Spelling.{spell_write};
 ghost use Rattle.dkv_msgs.specs.Readings.{reads_snapshot_read, reads_snapshot_read_output, reads_atomic_write, reads_atomic_write_output, reads_watch, reads_watch_output};
-ghost use Rattle.dkv_msgs.specs.Spellings.{spell_snapshot_read_output, spell_atomic_write_output, spell_watch_output};
 
 use crate::types::{AtomicWriteOutput, SnapshotRead, SnapshotReadOutput, Watch, WatchOutput};
 use crate::write_fields::{add_bytes, add_flag, add_messages, add_numbers, add_signed};

@@ -1,10 +1,14 @@
-ghost use Rattle.std.specs.Prelude.{◌≡◌, ℕ, List, [], ◌≤◌, ◌++◌, flat_map, OnOk, IfOk, IfSome, All};
+// The fields of messages, as they are written.
+ghost use Rattle.std.specs.Prelude.{◌≡◌, ℕ, List, [], ◌++◌, flat_map, OnOk, IfOk, IfSome, All};
 ghost use Rattle.std.specs.Option.{option_map_or};
-ghost use Rattle.dkv_base.specs.Spelling.{flag, unsigned, varint, part, number_field, bytes_field, numbers_field};
+ghost use Rattle.dkv_base.specs.Protobuf.{flag, unsigned, varint, delimited, number_field, bytes_field, numbers_field};
+ghost use Rattle.dkv_wire.specs.Wire.{IsFieldNumber};
 ghost use Rattle.dkv_msgs.specs.Fits.{NumbersFit};
+ghost use Rattle.dkv_msgs.specs.Spellings.{all_delimited, delimited_if_some};
 
 use dkv_base::{Bytes, NoMemory};
 use dkv_wire::Out;
+use dkv_wire::limits::{MAX_HEAD_BYTES, MAX_VARINT_BYTES};
 use std::alloc::Global;
 
 /// What is written as an embedded message.
@@ -22,55 +26,55 @@ pub trait Spelled {
 
 /// Appends a number, where it is not 0.
 #[tactic(auto, using(dkv_wire::proofs::Sizes::number_size))]
-pub fn add_number(out: &mut Out, number: u32, v: u64) -> Result<(), NoMemory>
-    requires { (1 ≤ number) × (number ≤ 536870911) }
-    ensures { OnOk result (out.new.bytes ≡ out.old.bytes ++ number_field number v) }
+pub fn add_number(out: &mut Out, field: u32, number: u64) -> Result<(), NoMemory>
+    requires { IsFieldNumber field }
+    ensures { OnOk result (out.new.bytes ≡ out.old.bytes ++ number_field field number) }
 {
-    out.reserve(20)?;
-    out.put_number(number, v);
+    out.reserve(MAX_HEAD_BYTES)?;
+    out.put_number(field, number);
     Ok(())
 }
 
 /// Appends a signed number in two's complement of 64 bits, where it is not 0.
-pub fn add_signed(out: &mut Out, number: u32, v: i64) -> Result<(), NoMemory>
-    requires { (1 ≤ number) × (number ≤ 536870911) }
-    ensures { OnOk result (out.new.bytes ≡ out.old.bytes ++ number_field number (unsigned v)) }
+pub fn add_signed(out: &mut Out, field: u32, number: i64) -> Result<(), NoMemory>
+    requires { IsFieldNumber field }
+    ensures { OnOk result (out.new.bytes ≡ out.old.bytes ++ number_field field (unsigned number)) }
 {
-    add_number(out, number, v.cast_unsigned())
+    add_number(out, field, number.cast_unsigned())
 }
 
 /// Appends a truth value, where it is true.
-pub fn add_flag(out: &mut Out, number: u32, v: bool) -> Result<(), NoMemory>
-    requires { (1 ≤ number) × (number ≤ 536870911) }
-    ensures { OnOk result (out.new.bytes ≡ out.old.bytes ++ number_field number (flag v)) }
+pub fn add_flag(out: &mut Out, field: u32, value: bool) -> Result<(), NoMemory>
+    requires { IsFieldNumber field }
+    ensures { OnOk result (out.new.bytes ≡ out.old.bytes ++ number_field field (flag value)) }
 {
-    if v {
-        add_number(out, number, 1)
+    if value {
+        add_number(out, field, 1)
     } else {
         Ok(())
     }
 }
 
 /// Appends a payload with its length before it, even if it is empty.
-#[tactic(auto, using(dkv_wire::proofs::Sizes::part_size))]
-pub fn add_part(out: &mut Out, number: u32, bytes: &[u8]) -> Result<(), NoMemory>
-    requires { (1 ≤ number) × (number ≤ 536870911) }
-    ensures { OnOk result (out.new.bytes ≡ out.old.bytes ++ part number bytes.now) }
+#[tactic(auto, using(dkv_wire::proofs::Sizes::delimited_size))]
+pub fn add_delimited(out: &mut Out, field: u32, bytes: &[u8]) -> Result<(), NoMemory>
+    requires { IsFieldNumber field }
+    ensures { OnOk result (out.new.bytes ≡ out.old.bytes ++ delimited field bytes.now) }
 {
-    out.reserve(20 + bytes.len())?;
-    out.put_bytes(number, bytes);
+    out.reserve(MAX_HEAD_BYTES + bytes.len())?;
+    out.put_bytes(field, bytes);
     Ok(())
 }
 
 /// Appends bytes, where there are any.
-pub fn add_bytes(out: &mut Out, number: u32, bytes: &[u8]) -> Result<(), NoMemory>
-    requires { (1 ≤ number) × (number ≤ 536870911) }
-    ensures { OnOk result (out.new.bytes ≡ out.old.bytes ++ bytes_field number bytes.now) }
+pub fn add_bytes(out: &mut Out, field: u32, bytes: &[u8]) -> Result<(), NoMemory>
+    requires { IsFieldNumber field }
+    ensures { OnOk result (out.new.bytes ≡ out.old.bytes ++ bytes_field field bytes.now) }
 {
     if bytes.is_empty() {
         return Ok(());
     }
-    add_part(out, number, bytes)
+    add_delimited(out, field, bytes)
 }
 
 #[tactic(auto, using(dkv_wire::proofs::Sizes::varint_size))]
@@ -79,7 +83,7 @@ fn varints(alloc: Global, numbers: &[u32]) -> Result<Bytes, NoMemory>
 {
     let mut out = Out::new(alloc);
     for n in numbers {
-        out.reserve(10)?;
+        out.reserve(usize::from(MAX_VARINT_BYTES))?;
         out.put_varint(u64::from(*n));
     }
     Ok(out.finish())
@@ -89,24 +93,25 @@ fn varints(alloc: Global, numbers: &[u32]) -> Result<Bytes, NoMemory>
 pub fn add_numbers(
     alloc: Global,
     out: &mut Out,
-    number: u32,
+    field: u32,
     numbers: &[u32],
 ) -> Result<(), NoMemory>
-    requires { (1 ≤ number) × (number ≤ 536870911) }
-    ensures bytes { OnOk result (out.new.bytes ≡ out.old.bytes ++ numbers_field number numbers.now) }
+    requires { IsFieldNumber field }
+    ensures bytes { OnOk result (out.new.bytes ≡ out.old.bytes ++ numbers_field field numbers.now) }
     ensures fits { OnOk result (NumbersFit numbers.now) }
 {
     let packed = varints(alloc, numbers)?;
-    add_bytes(out, number, packed.as_slice())
+    add_bytes(out, field, packed.as_slice())
 }
 
 /// Appends each payload in order, even if it is empty.
-pub fn add_parts(out: &mut Out, number: u32, payloads: &[Bytes]) -> Result<(), NoMemory>
-    requires { (1 ≤ number) × (number ≤ 536870911) }
-    ensures { OnOk result (out.new.bytes ≡ out.old.bytes ++ flat_map (part number) payloads.now) }
+pub fn add_payloads(out: &mut Out, field: u32, payloads: &[Bytes]) -> Result<(), NoMemory>
+    requires { IsFieldNumber field }
+    ensures { OnOk result
+        (out.new.bytes ≡ out.old.bytes ++ flat_map (delimited field) payloads.now) }
 {
     for payload in payloads {
-        add_part(out, number, payload.as_slice())?;
+        add_delimited(out, field, payload.as_slice())?;
     }
     Ok(())
 }
@@ -115,31 +120,33 @@ pub fn add_parts(out: &mut Out, number: u32, payloads: &[Bytes]) -> Result<(), N
 pub fn add_message<M: Spelled>(
     alloc: Global,
     out: &mut Out,
-    number: u32,
+    field: u32,
     message: &M,
 ) -> Result<(), NoMemory>
-    requires { (1 ≤ number) × (number ≤ 536870911) }
-    ensures bytes { OnOk result (out.new.bytes ≡ out.old.bytes ++ part number (M.spelling message.now)) }
+    requires { IsFieldNumber field }
+    ensures bytes { OnOk result
+        (out.new.bytes ≡ out.old.bytes ++ delimited field (M.spelling message.now)) }
     ensures fits { OnOk result (M.fits message.now) }
 {
     let spelled = message.spell(alloc)?;
-    add_part(out, number, spelled.as_slice())
+    add_delimited(out, field, spelled.as_slice())
 }
 
 /// Appends an embedded message, where there is one.
 pub fn add_optional<M: Spelled>(
     alloc: Global,
     out: &mut Out,
-    number: u32,
+    field: u32,
     message: &Option<M>,
 ) -> Result<(), NoMemory>
-    requires { (1 ≤ number) × (number ≤ 536870911) }
-    ensures bytes { OnOk result (out.new.bytes ≡ out.old.bytes ++ option_map_or (λ m. part number (M.spelling m)) message.now []) }
+    requires { IsFieldNumber field }
+    ensures bytes { OnOk result
+        (out.new.bytes ≡ out.old.bytes ++ delimited_if_some field M.spelling message.now) }
     ensures fits { OnOk result (IfSome message.now M.fits) }
 {
     match message {
         None => Ok(()),
-        Some(message) => add_message(alloc, out, number, message),
+        Some(message) => add_message(alloc, out, field, message),
     }
 }
 
@@ -147,15 +154,16 @@ pub fn add_optional<M: Spelled>(
 pub fn add_messages<M: Spelled>(
     alloc: Global,
     out: &mut Out,
-    number: u32,
+    field: u32,
     messages: &[M],
 ) -> Result<(), NoMemory>
-    requires { (1 ≤ number) × (number ≤ 536870911) }
-    ensures bytes { OnOk result (out.new.bytes ≡ out.old.bytes ++ flat_map (λ m. part number (M.spelling m)) messages.now) }
+    requires { IsFieldNumber field }
+    ensures bytes { OnOk result
+        (out.new.bytes ≡ out.old.bytes ++ all_delimited field M.spelling messages.now) }
     ensures fits { OnOk result (All M.fits messages.now) }
 {
     for message in messages {
-        add_message(alloc, out, number, message)?;
+        add_message(alloc, out, field, message)?;
     }
     Ok(())
 }

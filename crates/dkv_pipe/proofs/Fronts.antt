@@ -1,34 +1,28 @@
 -- A whole frame at the front stays there, whatever follows.
-use Rattle.std.proofs.Common.{◌≡◌, ℕ, ◌+◌, ◌-◌, ◌≤◌, Bool, true, false, cond, List, ◌++◌, length, get_or, take, drop, refl, sym, ap, subst, ◌∙◌, arith, length-append}
-use Rattle.std.specs.Prelude.{nat_lt, ◌||◌, not}
-use Rattle.std.specs.Int.{w32, w64, from_le_bytes}
-use Rattle.std.proofs.lemmas.Bool.{le-ltb, ltb-false}
+use Rattle.std.proofs.Common.{◌≡◌, ℕ, ◌+◌, ◌-◌, ◌≤◌, Bool, true, false, cond, Option, Some, None, List, ◌++◌, length, take, drop, refl, sym, ap, subst, ◌∙◌, arith, length-append}
+use Rattle.std.specs.Prelude.{nat_lt, not}
+use Rattle.std.specs.Int.{w32, from_le_bytes}
+use Rattle.std.proofs.lemmas.Bool.{le-ltb, ltb-false, not-false}
 use Rattle.std.proofs.lemmas.List.{take-append-le, drop-append-le, get_or_append_left, length-drop}
-use Rattle.dkv_base.specs.Pipe.{PipeFrame, is_frame_kind, is_body_length}
-use Rattle.dkv_pipe.specs.Frames.{Front, Whole, Partial, Refused, front, length_at}
+use Rattle.dkv_pipe.specs.declared.frame_kind.FrameKind.{FrameKind}
 use Rattle.dkv_pipe.specs.declared.frames.Head.{Head}
+use Rattle.dkv_pipe.specs.declared.sizes.TheConstants.{LENGTH_BYTES, HEAD_BYTES, BODY_PLACE}
+use Rattle.dkv_pipe.specs.Codes.{kind_of}
+use Rattle.dkv_pipe.specs.Frames.{PipeFrame, Front, Whole, Partial, Refused, front, front_of_kind, frame_at, length_at, body_length_at, caller_at, moment_at, code_at, is_bad_length, is_body_length}
 use Rattle.dkv_pipe.specs.Running.{IsWholeOf}
 
--- the frame of some bytes, if they are long enough
-abbrev pub frame_of : List ℕ → PipeFrame
-frame_of bytes = record {
-  caller = from_le_bytes w32 (take 4 (drop 4 bytes));
-  moment = from_le_bytes w64 (take 8 (drop 8 bytes));
-  kind = get_or bytes 16 0;
-  body = take (length_at bytes - 13) (drop 17 bytes);
-}
+-- what makes a frame of this kind whole
+pub record Tests (bytes : List ℕ) (k : FrameKind) : Type 0 where
+  pub range : is_bad_length (length_at bytes) ≡ false
+  pub long : BODY_PLACE ≤ length bytes
+  pub kind : kind_of (code_at bytes) ≡ Some k
+  pub fits : is_body_length k (body_length_at bytes) ≡ true
+  pub whole : LENGTH_BYTES + length_at bytes ≤ length bytes
 
--- what makes a frame whole
-pub record Tests (bytes : List ℕ) : Type 0 where
-  pub range : (nat_lt (length_at bytes) 13 || nat_lt 2097165 (length_at bytes)) ≡ false
-  pub long : 17 ≤ length bytes
-  pub kind : (not (is_frame_kind (get_or bytes 16 0)) || not (is_body_length (get_or bytes 16 0) (length_at bytes - 13))) ≡ false
-  pub whole : 4 + length_at bytes ≤ length bytes
-
-pub is_whole : (bytes : List ℕ) → Tests bytes → front bytes ≡ Whole (frame_of bytes) (drop (4 + length_at bytes) bytes)
+pub is_whole : (bytes : List ℕ) (k : FrameKind) → Tests bytes k → front bytes ≡ Whole (frame_at k bytes) (drop (LENGTH_BYTES + length_at bytes) bytes)
 unfolding front
-is_whole bytes t =
-    rw (le-ltb (length bytes) 4 (omega (arith, t.long)), t.range, le-ltb (length bytes) 17 t.long, t.kind, le-ltb (length bytes) (4 + length_at bytes) t.whole) refl
+is_whole bytes k t =
+    rw (le-ltb (length bytes) 4 (omega (arith, t.long)), t.range, le-ltb (length bytes) 17 t.long, t.kind, t.fits, le-ltb (length bytes) (4 + length_at bytes) t.whole) refl
 
 other : (b : Bool) (x y z : Front) → cond b x y ≡ z → (x ≡ z → ⊥) → (b ≡ false) × (y ≡ z)
 other true x y z e differ = absurd (differ e)
@@ -40,48 +34,73 @@ not_partial f after e = absurd cc
 not_refused : (f : PipeFrame) (after : List ℕ) → Refused ≡ Whole f after → ⊥
 not_refused f after e = absurd cc
 
+-- the last tests, which ask for the kind
+record Last (bytes : List ℕ) (o : Option FrameKind) (f : PipeFrame) (after : List ℕ) : Type 0 where
+  kind : FrameKind
+  found : o ≡ Some kind
+  fits : is_body_length kind (body_length_at bytes) ≡ true
+  whole : LENGTH_BYTES + length_at bytes ≤ length bytes
+  is : Whole (frame_at kind bytes) (drop (LENGTH_BYTES + length_at bytes) bytes) ≡ Whole f after
+
+last_tests : (bytes : List ℕ) (o : Option FrameKind) (f : PipeFrame) (after : List ℕ) → front_of_kind o bytes ≡ Whole f after → Last bytes o f after
+last_tests bytes None f after e = absurd (not_refused f after e)
+last_tests bytes (Some k) f after e =
+    let a = other (not (is_body_length k (body_length_at bytes))) Refused _ (Whole f after) e (not_refused f after) in
+    let b = other (nat_lt (length bytes) (LENGTH_BYTES + length_at bytes)) Partial _ (Whole f after) a.1 (not_partial f after) in
+    record {
+      kind = k;
+      found = refl;
+      fits = not-false (is_body_length k (body_length_at bytes)) a.0;
+      whole = ltb-false (length bytes) (LENGTH_BYTES + length_at bytes) b.0;
+      is = b.1;
+    }
+
+-- the kind of a whole frame, and its tests
 pub record Found (bytes : List ℕ) (f : PipeFrame) (after : List ℕ) : Type 0 where
-  pub tests : Tests bytes
-  pub is : Whole (frame_of bytes) (drop (4 + length_at bytes) bytes) ≡ Whole f after
+  pub kind : FrameKind
+  pub tests : Tests bytes kind
+  pub is : Whole (frame_at kind bytes) (drop (LENGTH_BYTES + length_at bytes) bytes) ≡ Whole f after
 
 pub whole_is : (bytes : List ℕ) (f : PipeFrame) (after : List ℕ) → front bytes ≡ Whole f after → Found bytes f after
 unfolding front
 whole_is bytes f after e =
     let a = other (nat_lt (length bytes) 4) Partial _ (Whole f after) e (not_partial f after) in
-    let b = other (nat_lt (length_at bytes) 13 || nat_lt 2097165 (length_at bytes)) Refused _ (Whole f after) a.1 (not_refused f after) in
+    let b = other (is_bad_length (length_at bytes)) Refused _ (Whole f after) a.1 (not_refused f after) in
     let c = other (nat_lt (length bytes) 17) Partial _ (Whole f after) b.1 (not_partial f after) in
-    let d = other (not (is_frame_kind (get_or bytes 16 0)) || not (is_body_length (get_or bytes 16 0) (length_at bytes - 13))) Refused _ (Whole f after) c.1 (not_refused f after) in
-    let g = other (nat_lt (length bytes) (4 + length_at bytes)) Partial _ (Whole f after) d.1 (not_partial f after) in
+    let last = last_tests bytes (kind_of (code_at bytes)) f after c.1 in
     record {
-      tests = record { range = b.0; long = ltb-false (length bytes) 17 c.0; kind = d.0; whole = ltb-false (length bytes) (4 + length_at bytes) g.0 };
-      is = g.1;
+      kind = last.kind;
+      tests = record { range = b.0; long = ltb-false (length bytes) 17 c.0; kind = last.found; fits = last.fits; whole = last.whole };
+      is = last.is;
     }
 
-module _ (bytes more : List ℕ) (long : 17 ≤ length bytes) where
+module _ (bytes more : List ℕ) (long : BODY_PLACE ≤ length bytes) where
   same_length : length_at (bytes ++ more) ≡ length_at bytes
   same_length = ap (from_le_bytes w32) (take-append-le 4 bytes more (omega (arith, long)))
 
-  same_kind : get_or (bytes ++ more) 16 0 ≡ get_or bytes 16 0
-  same_kind = get_or_append_left bytes more 0 16 (omega (arith, long))
+  same_code : code_at (bytes ++ more) ≡ code_at bytes
+  same_code = get_or_append_left bytes more 0 16 (omega (arith, long))
 
   same_part : (n at : ℕ) → at + n ≤ length bytes → take n (drop at (bytes ++ more)) ≡ take n (drop at bytes)
   same_part n at le =
       ap (take n) (drop-append-le at bytes more (omega (arith, le))) ∙ take-append-le n (drop at bytes) more (omega (arith, le, length-drop at bytes))
 
-  pub tests_more : Tests bytes → Tests (bytes ++ more)
-  tests_more t = record {
+  pub tests_more : (k : FrameKind) → Tests bytes k → Tests (bytes ++ more) k
+  tests_more k t = record {
     range = rw same_length t.range;
     long = omega (arith, long, length-append bytes more);
-    kind = rw (same_length, same_kind) t.kind;
+    kind = rw same_code t.kind;
+    fits = rw same_length t.fits;
     whole = rw same_length (omega (arith, t.whole, length-append bytes more));
   }
 
-  frame_more : Tests bytes → frame_of (bytes ++ more) ≡ frame_of bytes
-  frame_more t =
-      rw (same_length, same_kind, same_part 4 4 (omega (arith, long)), same_part 8 8 (omega (arith, long)), same_part (length_at bytes - 13) 17 (omega (arith, t.whole, t.long))) refl
+  frame_more : (k : FrameKind) → Tests bytes k → frame_at k (bytes ++ more) ≡ frame_at k bytes
+  frame_more k t =
+      rw (same_length, same_part 4 4 (omega (arith, long)), same_part 8 8 (omega (arith, long)), same_part (body_length_at bytes) 17 (omega (arith, t.whole, t.long))) refl
 
-  pub whole_more : Tests bytes → Whole (frame_of (bytes ++ more)) (drop (4 + length_at (bytes ++ more)) (bytes ++ more)) ≡ Whole (frame_of bytes) (drop (4 + length_at bytes) bytes ++ more)
-  whole_more t = rw (frame_more t, same_length, drop-append-le (4 + length_at bytes) bytes more t.whole) refl
+  pub whole_more : (k : FrameKind) → Tests bytes k
+      → Whole (frame_at k (bytes ++ more)) (drop (4 + length_at (bytes ++ more)) (bytes ++ more)) ≡ Whole (frame_at k bytes) (drop (4 + length_at bytes) bytes ++ more)
+  whole_more k t = rw (frame_more k t, same_length, drop-append-le (4 + length_at bytes) bytes more t.whole) refl
 
 longer : (f : PipeFrame) (a b more : List ℕ) (g : PipeFrame) → Whole f a ≡ Whole g b → Whole f (a ++ more) ≡ Whole g (b ++ more)
 longer f a b more g e = cc
@@ -89,35 +108,32 @@ longer f a b more g e = cc
 pub front_more : (bytes more : List ℕ) (f : PipeFrame) (after : List ℕ) → front bytes ≡ Whole f after → front (bytes ++ more) ≡ Whole f (after ++ more)
 front_more bytes more f after e =
     let found = whole_is bytes f after e in
+    let k = found.kind in
     let t = found.tests in
-    is_whole (bytes ++ more) (tests_more bytes more t.long t) ∙ whole_more bytes more t.long t ∙ longer (frame_of bytes) (drop (4 + length_at bytes) bytes) after more f found.is
+    is_whole (bytes ++ more) k (tests_more bytes more t.long k t) ∙ whole_more bytes more t.long k t
+    ∙ longer (frame_at k bytes) (drop (4 + length_at bytes) bytes) after more f found.is
 
 -- the head of the frame, if the bytes are long enough
-abbrev pub head_of : List ℕ → ℕ → Head
-head_of bytes len = record {
-  caller = from_le_bytes w32 (take 4 (drop 4 bytes));
-  moment = from_le_bytes w64 (take 8 (drop 8 bytes));
-  kind = get_or bytes 16 0;
-  len = 4 + len;
+abbrev pub head_at : FrameKind → List ℕ → ℕ → Head
+head_at k bytes len = record {
+  caller = caller_at bytes;
+  moment = moment_at bytes;
+  kind = k;
+  len = LENGTH_BYTES + len;
 }
 
-pub look_whole : (bytes : List ℕ) (len : ℕ) → Tests bytes → len ≡ length_at bytes → 13 ≤ len → IsWholeOf (head_of bytes len) bytes
-look_whole bytes len t e least =
-    let P : ℕ → Type 0 = λ n. IsWholeOf (head_of bytes n) bytes in
+pub look_whole : (bytes : List ℕ) (k : FrameKind) (len : ℕ) → Tests bytes k → len ≡ length_at bytes → HEAD_BYTES ≤ len → IsWholeOf (head_at k bytes len) bytes
+look_whole bytes k len t e least =
+    let P : ℕ → Type 0 = λ n. IsWholeOf (head_at k bytes n) bytes in
     let same : (n : ℕ) → n - 13 ≡ 4 + n - 17 = λ n. omega arith in
     subst P (sym e) (record {
-      whole = is_whole bytes t ∙ ap (λ (k : ℕ). Whole (record {
-        caller = from_le_bytes w32 (take 4 (drop 4 bytes));
-        moment = from_le_bytes w64 (take 8 (drop 8 bytes));
-        kind = get_or bytes 16 0;
-        body = take k (drop 17 bytes);
+      whole = is_whole bytes k t ∙ ap (λ (n : ℕ). Whole (record {
+        caller = caller_at bytes;
+        moment = moment_at bytes;
+        kind = k;
+        body = take n (drop 17 bytes);
       }) (drop (4 + length_at bytes) bytes)) (same (length_at bytes));
       least = omega (arith, e, least);
       most = t.whole;
-      fits = subst (λ k. is_body_length (get_or bytes 16 0) k ≡ true) (same (length_at bytes)) (fits (is_frame_kind (get_or bytes 16 0)) (is_body_length (get_or bytes 16 0) (length_at bytes - 13)) t.kind);
+      fits = subst (λ n. is_body_length k n ≡ true) (same (length_at bytes)) t.fits;
     })
-  where
-    fits : (a b : Bool) → (not a || not b) ≡ false → b ≡ true
-    fits true true h = refl
-    fits true false h = absurd (cc h)
-    fits false b h = absurd (cc h)

@@ -7,47 +7,49 @@ use Rattle.dkv_base.specs.declared.types.Ask.{Ask}
 use Rattle.dkv_base.specs.declared.types.Ask.TheVariants as ask
 use Rattle.dkv_base.specs.declared.types.Call.{Call}
 use Rattle.dkv_base.specs.declared.types.Call.TheVariants as call
-use Rattle.dkv_base.specs.declared.types.Limit.{Limit}
+use Rattle.dkv_base.specs.declared.codes.Limit.{Limit}
 use Rattle.dkv_base.specs.declared.types.Message.{Message}
 use Rattle.dkv_base.specs.declared.types.ReadRange.{ReadRange}
 use Rattle.dkv_base.specs.Limits.{write_limit}
-use Rattle.dkv_base.specs.State.{seen, taken_moment}
-use Rattle.dkv_base.specs.Trails.{is_out}
+use Rattle.dkv_base.specs.State.{seen}
+use Rattle.dkv_base.specs.Moments.{capped_moment}
+use Rattle.dkv_base.specs.Messages.{is_out}
 use Rattle.dkv_base.specs.Writes.{failing, mutated_all}
 use Rattle.dkv_base.specs.Replies.{Reply, said}
 use Rattle.dkv_base.specs.Steps.{effective, reply_to, answered}
-use Rattle.dkv_base.specs.Pipe.{asks, wish_of_read, bytes_of_reply, answer_bytes}
 use Rattle.dkv_wire.specs.FieldLists.{fields}
 use Rattle.dkv_msgs.specs.declared.types.SnapshotRead.{SnapshotRead}
 use Rattle.dkv_msgs.specs.Messages.{snapshot_read}
 use Rattle.dkv_msgs.specs.Places.{bad_snapshot_read}
-use Rattle.dkv_msgs.specs.Readings.{readings, unless_bad, reads_snapshot_read}
-use Rattle.dkv_core.specs.Cores.{Whole, Change, SameContent}
+use Rattle.dkv_msgs.specs.Readings.{unless_bad, reads_snapshot_read}
+use Rattle.dkv_core.specs.Cores.{Database, Change, SameContent}
 use Rattle.dkv_core.specs.Decisions.{Goes, OfWrite, may_ask}
 use Rattle.dkv_core.specs.Runs.{StandsFor, IsAnswered}
 use Rattle.dkv_core.specs.Takes.{IsFirst, IsNone, IsOutToo, IsRaised}
 use Rattle.dkv_core.proofs.Replying.{Made, SameAt, same_answers, write_limited, write_fails, write_not_u64, write_goes, settle_none, settle_made, take_leased, take_nothing}
-use Rattle.dkv_pipe.specs.Replies.{Grants, ask_of, limit_out, made_answer}
+use Rattle.dkv_pipe.specs.Wishes.{asks, readings, wish_of_read}
+use Rattle.dkv_pipe.specs.ReplyFrames.{bytes_of_reply, answer_bytes, limit_bytes}
+use Rattle.dkv_pipe.specs.Grants.{Grants, ask_of, made_answer}
 
 -- an answer at the effective moment, and its bytes
-granted : (c d : Whole) (who at t : ℕ) (a : Ask) (r : Answer) (out : List ℕ) → t ≡ max (taken_moment at) c.greatest → IsAnswered c who t a r d → out ≡ answer_bytes r
+granted : (c d : Database) (who at t : ℕ) (a : Ask) (r : Answer) (out : List ℕ) → t ≡ max (capped_moment at) c.greatest → IsAnswered c who t a r d → out ≡ answer_bytes r
     → Grants c (asks a) who at out d
 granted c d who at t a r out when is told = λ s stands.
-    let same : t ≡ effective s at = when ∙ ap (λ (g : ℕ). max (taken_moment at) g) (sym stands.greatest) in
+    let same : t ≡ effective s at = when ∙ ap (λ (g : ℕ). max (capped_moment at) g) (sym stands.greatest) in
     let here = subst (λ (u : ℕ). (reply_to s who u a ≡ said r) × StandsFor (answered who u a (said r) s) d) same (is s stands) in (
       ap bytes_of_reply here.0 ∙ sym told,
       subst (λ (q : Reply). StandsFor (answered who (effective s at) a q s) d) (sym here.0) here.1,
     )
 
 -- a write that passes a limit; no settlement does
-pub call_limited : (c d : Whole) (who at t : ℕ) (a : Call) (passed : Limit) (out : List ℕ) → t ≡ max (taken_moment at) c.greatest → OfWrite a (λ w. write_limit w ≡ Some passed) → SameContent c d → out ≡ limit_out passed
+pub call_limited : (c d : Database) (who at t : ℕ) (a : Call) (passed : Limit) (out : List ℕ) → t ≡ max (capped_moment at) c.greatest → OfWrite a (λ w. write_limit w ≡ Some passed) → SameContent c d → out ≡ limit_bytes passed
     → Grants c (asks (ask_of a)) who at out d
 call_limited c d who at t (call.Write w) passed out when is same told = granted c d who at t (ask.Write w) (answer.Limit passed) out when (write_limited c d who t w passed is same) told
 call_limited c d who at t (call.Ack id) passed out when is same told = absurd is
 call_limited c d who at t (call.Fail id) passed out when is same told = absurd is
 
 -- a write of which checks fail
-pub call_fails : (c m d : Whole) (who at t : ℕ) (a : Call) (places : List ℕ) (out : List ℕ) → t ≡ max (taken_moment at) c.greatest → SameContent c m
+pub call_fails : (c m d : Database) (who at t : ℕ) (a : Call) (places : List ℕ) (out : List ℕ) → t ≡ max (capped_moment at) c.greatest → SameContent c m
     → OfWrite a (λ w. (write_limit w ≡ None) × (failing w (seen m.state t) ≡ places) × (places ≢ [])) → SameAt m t d → out ≡ answer_bytes (answer.Fails places)
     → Grants c (asks (ask_of a)) who at out d
 call_fails c m d who at t (call.Write w) places out when same is raised told =
@@ -56,7 +58,7 @@ call_fails c m d who at t (call.Ack id) places out when same is raised told = ab
 call_fails c m d who at t (call.Fail id) places out when same is raised told = absurd is
 
 -- a write that meets a value that is no LE64
-pub call_not_u64 : (c m d : Whole) (who at t : ℕ) (a : Call) (index : ℕ) (out : List ℕ) → t ≡ max (taken_moment at) c.greatest → SameContent c m
+pub call_not_u64 : (c m d : Database) (who at t : ℕ) (a : Call) (index : ℕ) (out : List ℕ) → t ≡ max (capped_moment at) c.greatest → SameContent c m
     → OfWrite a (λ w. (write_limit w ≡ None) × (failing w (seen m.state t) ≡ []) × (mutated_all w (m.state.number + 1) t (seen m.state t) ≡ Err index)) → SameAt m t d → out ≡ answer_bytes (answer.NotU64 index)
     → Grants c (asks (ask_of a)) who at out d
 call_not_u64 c m d who at t (call.Write w) index out when same is raised told =
@@ -68,7 +70,7 @@ numbered : (a : Call) (n k : ℕ) (out : List ℕ) → n ≡ k → out ≡ answe
 numbered a n k out is told = told ∙ ap (λ (x : ℕ). answer_bytes (made_answer a x)) is
 
 -- a call that was prepared and made
-pub call_made : (c m d : Whole) (who at t : ℕ) (a : Call) (p : Change) (number : ℕ) (out : List ℕ) → t ≡ max (taken_moment at) c.greatest → SameContent c m → may_ask c a ≡ true
+pub call_made : (c m d : Database) (who at t : ℕ) (a : Call) (p : Change) (number : ℕ) (out : List ℕ) → t ≡ max (capped_moment at) c.greatest → SameContent c m → may_ask c a ≡ true
     → Goes m who t a p → Made m p d → number ≡ m.state.number + 1 → out ≡ answer_bytes (made_answer a number)
     → Grants c (asks (ask_of a)) who at out d
 call_made c m d who at t (call.Write w) p number out when same may is made next told =
@@ -85,20 +87,20 @@ call_made c m d who at t (call.Fail id) p number out when same may is made next 
     (numbered (call.Fail id) number p.number out (next ∙ sym is.ready.number) told)
 
 -- a settlement of what isn't out
-pub call_lost : (c : Whole) (who at : ℕ) (a : Call) (out : List ℕ) → may_ask c a ≡ false → out ≡ answer_bytes answer.NoLease → Grants c (asks (ask_of a)) who at out c
+pub call_lost : (c : Database) (who at : ℕ) (a : Call) (out : List ℕ) → may_ask c a ≡ false → out ≡ answer_bytes answer.NoLease → Grants c (asks (ask_of a)) who at out c
 call_lost c who at (call.Write w) out may told = absurd (cc may)
 call_lost c who at (call.Ack id) out may told =
-    granted c c who at (max (taken_moment at) c.greatest) (ask.Settle id true) answer.NoLease out refl (settle_none c c who (max (taken_moment at) c.greatest) id true may (record { state = refl; out = refl; greatest = refl })) told
+    granted c c who at (max (capped_moment at) c.greatest) (ask.Settle id true) answer.NoLease out refl (settle_none c c who (max (capped_moment at) c.greatest) id true may (record { state = refl; out = refl; greatest = refl })) told
 call_lost c who at (call.Fail id) out may told =
-    granted c c who at (max (taken_moment at) c.greatest) (ask.Settle id false) answer.NoLease out refl (settle_none c c who (max (taken_moment at) c.greatest) id false may (record { state = refl; out = refl; greatest = refl })) told
+    granted c c who at (max (capped_moment at) c.greatest) (ask.Settle id false) answer.NoLease out refl (settle_none c c who (max (capped_moment at) c.greatest) id false may (record { state = refl; out = refl; greatest = refl })) told
 
 -- a take of the message that is due
-pub lease_granted : (c d : Whole) (at t : ℕ) (m : Message) (out : List ℕ) → t ≡ max (taken_moment at) c.greatest → IsFirst c t m → IsOutToo c m.id d → IsRaised c t d → out ≡ answer_bytes (answer.Leased m)
+pub lease_granted : (c d : Database) (at t : ℕ) (m : Message) (out : List ℕ) → t ≡ max (capped_moment at) c.greatest → IsFirst c t m → IsOutToo c m.id d → IsRaised c t d → out ≡ answer_bytes (answer.Leased m)
     → (who : ℕ) → Grants c (asks ask.Take) who at out d
 lease_granted c d at t m out when is gone raised told who = granted c d who at t ask.Take (answer.Leased m) out when (take_leased c d who t m is gone raised) told
 
 -- and one that finds none
-pub nothing_granted : (c d : Whole) (at t : ℕ) (moment : Option ℕ) (out : List ℕ) → t ≡ max (taken_moment at) c.greatest → IsNone c t moment → d.out ≡ c.out → IsRaised c t d → out ≡ answer_bytes (answer.Nothing moment)
+pub nothing_granted : (c d : Database) (at t : ℕ) (moment : Option ℕ) (out : List ℕ) → t ≡ max (capped_moment at) c.greatest → IsNone c t moment → d.out ≡ c.out → IsRaised c t d → out ≡ answer_bytes (answer.Nothing moment)
     → (who : ℕ) → Grants c (asks ask.Take) who at out d
 nothing_granted c d at t moment out when is gone raised told who = granted c d who at t ask.Take (answer.Nothing moment) out when (take_nothing c d who t moment is gone raised) told
 
@@ -107,7 +109,7 @@ ranges_are None m request is = let same : m ≡ request = cc in ap (λ (x : Snap
 ranges_are (Some place) m request is = absurd (cc is)
 
 -- the ranges of a body that was read
-pub takes_ranges : {E : Type 0} (c d : Whole) (body : List ℕ) (request : SnapshotRead) (ranges : List ReadRange) (at : ℕ) (result : Result (List ℕ) E) → reads_snapshot_read body ≡ Ok request → ranges ≡ request.ranges
+pub takes_ranges : {E : Type 0} (c d : Database) (body : List ℕ) (request : SnapshotRead) (ranges : List ReadRange) (at : ℕ) (result : Result (List ℕ) E) → reads_snapshot_read body ≡ Ok request → ranges ≡ request.ranges
     → IfOk result (λ out. (who : ℕ) → Grants c (asks (ask.Read ranges)) who at out d) → IfOk result (λ out. (who : ℕ) → Grants c (wish_of_read ask.Read (readings.read_of body)) who at out d)
 takes_ranges c d body request ranges at result is same grants =
     let reading : readings.read_of body ≡ Ok ranges = ranges_are (bad_snapshot_read 0 body) (snapshot_read (fields 0 body)) request is ∙ ap (λ (rs : List ReadRange). Ok rs) (sym same) in

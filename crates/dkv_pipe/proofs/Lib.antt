@@ -1,5 +1,6 @@
-pub mod Written
+mod Codes
 mod Fronts
+mod RepliedFrames
 mod Runs
 mod One
 mod Spelled

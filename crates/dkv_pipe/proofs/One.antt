@@ -1,10 +1,9 @@
 -- An input has one run.
 use Rattle.std.proofs.Common.{◌≡◌, ℕ, List, [], ◌∷◌, refl, sym, ap, subst, ◌∙◌}
-use Rattle.dkv_base.specs.Steps.{Situation}
-use Rattle.dkv_base.specs.Pipe.{PipeFrame, replies_from, after_frames}
-use Rattle.dkv_msgs.specs.Readings.{readings}
-use Rattle.dkv_pipe.specs.Frames.{Whole, Partial, front, Begins}
-use Rattle.dkv_pipe.specs.Answers.{Answered}
+use Rattle.dkv_pipe.specs.Frames.{PipeFrame, Whole, Partial, front, Begins}
+use Rattle.dkv_pipe.specs.Wishes.{readings}
+use Rattle.dkv_pipe.specs.Pipe.{replies_from, after_frames}
+use Rattle.dkv_pipe.specs.Laws.{OneRun}
 
 front_nothing : front [] ≡ Partial
 unfolding front
@@ -28,7 +27,7 @@ one_list bytes (f ∷ fs) (g ∷ gs) x y =
     let rest = one_list x.0 fs gs x.2 (subst (λ (l : List ℕ). Begins l gs []) (sym same.1) y.2) in
     ap (λ (h : PipeFrame). h ∷ fs) same.0 ∙ ap (λ (hs : List PipeFrame). g ∷ hs) rest
 
-pub one_run : (from : Situation) (input : List ℕ) (s t : Situation) (a b : List ℕ) → Answered from input s a [] → Answered from input t b [] → (s ≡ t) × (a ≡ b)
+pub one_run : OneRun
 one_run from input s t a b x y =
     let same = one_list input x.frames y.frames x.whole y.whole in (
       x.leads ∙ ap (λ (fs : List PipeFrame). after_frames readings from fs []) same ∙ sym y.leads,

@@ -1,145 +1,110 @@
 -- A run goes on, or ends.
-use Rattle.std.proofs.Common.{◌≡◌, ℕ, ◌+◌, ◌<◌, ◌^◌, Bool, List, [], ◌∷◌, ◌++◌, length, drop, Option, Some, None, refl, sym, ap, subst, ◌∙◌, arith, append_assoc, length-append, inl, inr}
-use Rattle.std.specs.Io.KnownBytes.{Appends, Consumes, IsAtEnd}
-use Rattle.std.proofs.lemmas.List.{append-nil, length-drop}
-use Rattle.dkv_io.specs.Streams.{AppendsFront}
+use Rattle.std.proofs.Common.{◌≡◌, ℕ, ◌+◌, ◌<◌, List, [], ◌++◌, length, drop, Option, Some, None, refl, sym, ap, subst, ◌∙◌, arith, append_assoc, length-append, inl, inr}
 use Rattle.std.specs.Prelude.{IsTrue, false}
-use Rattle.std.specs.List.{AllByRecursion}
+use Rattle.std.specs.Io.KnownBytes.{Appends, Consumes, IsAtEnd}
+use Rattle.std.proofs.lemmas.List.{length-drop}
+use Rattle.dkv_io.specs.Streams.{AppendsFront}
 use Rattle.dkv_base.specs.declared.types.MsgId.{MsgId}
-use Rattle.dkv_base.specs.Trails.{is_out}
+use Rattle.dkv_base.specs.Messages.{is_out}
 use Rattle.dkv_base.specs.Steps.{Situation}
-use Rattle.dkv_base.specs.Pipe.{PipeFrame, frame_step, replies_from, after_frames}
-use Rattle.dkv_msgs.specs.Readings.{readings}
-use Rattle.dkv_pipe.specs.Frames.{Whole, Partial, front, Begins}
-use Rattle.dkv_pipe.specs.Built.{is_built}
-use Rattle.dkv_pipe.specs.Answers.{Answered}
-use Rattle.dkv_pipe.specs.declared.pipe.PipeEnd.TheVariants as end
-use Rattle.dkv_pipe.specs.Ends.{AnsweredTo, NoFrame, Ran, RanOver}
-use Rattle.dkv_pipe.specs.declared.pipe.PipeEnd.{PipeEnd}
 use Rattle.dkv_core.specs.Cores as cores
 use Rattle.dkv_core.specs.Cores.{SameContent}
 use Rattle.dkv_core.specs.Runs.{situation_of}
-use Rattle.dkv_pipe.specs.Replies.{Answers}
 use Rattle.dkv_pipe.specs.declared.frames.Head.{Head}
-use Rattle.dkv_pipe.specs.Running.{Running, Ongoing, IsWholeOf, frame_with, body_at}
-use Rattle.dkv_pipe.proofs.Fronts.{front_more}
-use Rattle.dkv_pipe.proofs.Written.{appends_nothing, appends_then, appends_front_then}
+use Rattle.dkv_pipe.specs.declared.pipe.PipeEnd.TheVariants as end
+use Rattle.dkv_pipe.specs.declared.sizes.TheConstants.{MAX_PLACE}
+use Rattle.dkv_pipe.specs.Frames.{Partial, Refused, front}
+use Rattle.dkv_pipe.specs.Wishes.{readings}
+use Rattle.dkv_pipe.specs.Pipe.{frame_step}
+use Rattle.dkv_pipe.specs.Built.{is_built}
+use Rattle.dkv_pipe.specs.Replied.{Replied}
+use Rattle.dkv_pipe.specs.Grants.{Answers}
+use Rattle.dkv_pipe.specs.Ends.{Streams, Course, CourseTo, NoFrame, Ran}
+use Rattle.dkv_pipe.specs.Running.{Running, IsWholeOf, frame_with, body_at}
+use Rattle.dkv_pipe.proofs.RepliedFrames.{replied_more, replied_one}
+use Rattle.dkv_io.proofs.Written.{appends_nothing, appends_then}
 
--- ---- the frames
+-- ---- what was read
 
-begins_more : (bytes more : List ℕ) (fs : List PipeFrame) (rest : List ℕ) → Begins bytes fs rest → Begins (bytes ++ more) fs (rest ++ more)
-begins_more bytes more [] rest is = ap (λ (l : List ℕ). l ++ more) is
-begins_more bytes more (f ∷ fs) rest is = (is.0 ++ more, front_more bytes more f is.0 is.1, begins_more is.0 more fs rest is.2)
+consumes_nothing : (left : Option (List ℕ)) → Consumes left left []
+consumes_nothing None = tt
+consumes_nothing (Some xs) = refl
 
-begins_one : (bytes : List ℕ) (fs : List PipeFrame) (rest : List ℕ) (f : PipeFrame) (after : List ℕ) → Begins bytes fs rest → front rest ≡ Whole f after → Begins bytes (fs ++ f ∷ []) after
-begins_one bytes [] rest f after is whole = (after, ap front is ∙ whole, refl)
-begins_one bytes (g ∷ fs) rest f after is whole = (is.0, is.1, begins_one is.0 fs rest f after is.2 whole)
-
-replies_one : (from : Situation) (fs : List PipeFrame) (f : PipeFrame) → replies_from readings from (fs ++ f ∷ []) [] ≡ replies_from readings from fs [] ++ (frame_step readings (after_frames readings from fs []) f false).0
-replies_one from [] f = append-nil (frame_step readings from f false).0
-replies_one from (g ∷ fs) f =
-    let first = frame_step readings from g false in
-    ap (λ (l : List ℕ). first.0 ++ l) (replies_one first.1 fs f) ∙ sym (append_assoc first.0 (replies_from readings first.1 fs []) (frame_step readings (after_frames readings first.1 fs []) f false).0)
-
-after_one : (from : Situation) (fs : List PipeFrame) (f : PipeFrame) → after_frames readings from (fs ++ f ∷ []) [] ≡ (frame_step readings (after_frames readings from fs []) f false).1
-after_one from [] f = refl
-after_one from (g ∷ fs) f = after_one (frame_step readings from g false).1 fs f
-
-built_one : (fs : List PipeFrame) (f : PipeFrame) → AllByRecursion (λ g. IsTrue (is_built g)) fs → IsTrue (is_built f) → AllByRecursion (λ g. IsTrue (is_built g)) (fs ++ f ∷ [])
-built_one [] f all is = (is, tt)
-built_one (g ∷ fs) f all is = (all.0, built_one fs f all.1 is)
-
-pub answered_more : (from : Situation) (bytes more : List ℕ) (to : Situation) (out rest : List ℕ) → Answered from bytes to out rest → Answered from (bytes ++ more) to out (rest ++ more)
-answered_more from bytes more to out rest is = record { frames = is.frames; whole = begins_more bytes more is.frames rest is.whole; built = is.built; replied = is.replied; leads = is.leads }
-
-pub answered_one : (from : Situation) (bytes : List ℕ) (to : Situation) (out rest : List ℕ) (f : PipeFrame) (after : List ℕ) → Answered from bytes to out rest → front rest ≡ Whole f after → IsTrue (is_built f)
-    → Answered from bytes (frame_step readings to f false).1 (out ++ (frame_step readings to f false).0) after
-answered_one from bytes to out rest f after is whole built = record {
-  frames = is.frames ++ f ∷ [];
-  whole = begins_one bytes is.frames rest f after is.whole whole;
-  built = built_one is.frames f is.built built;
-  replied = (λ i. is.replied i ++ (frame_step readings (is.leads i) f false).0) ∙ sym (replies_one from is.frames f);
-  leads = ap (λ (s : Situation). (frame_step readings s f false).1) is.leads ∙ sym (after_one from is.frames f);
-}
-
--- ---- what is told
-
-nothing_left : (left : Option (List ℕ)) (rest : List ℕ) → (let told : Option (List ℕ) = Some rest in left ≡ told) → IsAtEnd left → rest ≡ []
-nothing_left None rest told last = absurd (cc told)
-nothing_left (Some xs) rest told last = let same : xs ≡ rest = cc in sym same ∙ last
-
-pub at_start : (left held : Option (List ℕ)) (c : cores.Whole) → Running (situation_of c) left held c [] 0 left held
-at_start None held c = tt
-at_start (Some all) held c = (
-  [],
-  refl,
-  record {
-    out = [];
-    done = record {
-      to = situation_of c;
-      answered = record { frames = []; whole = refl; built = tt; replied = refl; leads = refl };
-      stands = record { state = refl; leased = λ id. refl; greatest = refl; unstopped = refl; unlimited = refl };
-      place = refl;
-    };
-    written = appends_nothing held;
-  },
-)
+consumes_then : (a b c : Option (List ℕ)) (xs ys : List ℕ) → Consumes a b xs → Consumes b c ys → Consumes a c (xs ++ ys)
+consumes_then None b c xs ys first second = tt
+consumes_then (Some all) None c xs ys first second = absurd first
+consumes_then (Some all) (Some bs) None xs ys first second = absurd second
+consumes_then (Some all) (Some bs) (Some cs) xs ys first second = first ∙ ap (λ (l : List ℕ). xs ++ l) second ∙ sym (append_assoc xs ys cs)
 
 -- ---- steps
 
-pub more_on : (from : Situation) (left0 held0 : Option (List ℕ)) (d : cores.Whole) (buffer : List ℕ) (at : ℕ) (left held new : Option (List ℕ)) (piece : List ℕ) → Running from left0 held0 d buffer at left held → Consumes left new piece → Running from left0 held0 d (buffer ++ piece) at new held
-more_on from None held0 d buffer at left held new piece is takes = tt
-more_on from (Some all) held0 d buffer at None held new piece is takes = absurd is
-more_on from (Some all) held0 d buffer at (Some xs) held None piece is takes = absurd takes
-more_on from (Some all) held0 d buffer at (Some xs) held (Some ys) piece is takes =
-    let read = is.0 in
-    let o = is.2 in (
-      read ++ piece,
-      is.1 ∙ ap (λ (l : List ℕ). read ++ l) takes ∙ sym (append_assoc read piece ys),
-      record {
-        out = o.out;
-        done = record {
-          to = o.done.to;
-          answered = answered_more from read piece o.done.to o.out buffer o.done.answered;
-          stands = o.done.stands;
-          place = omega (arith, o.done.place, length-append read piece, length-append buffer piece);
-        };
-        written = o.written;
-      },
-    )
+-- at the start nothing is read, and the buffer is empty
+pub at_start : (c : cores.Database) (before : Streams) → Running (situation_of c) before before c [] 0
+at_start c before = record {
+  read = [];
+  out = [];
+  consumed = consumes_nothing before.left;
+  answered = record {
+    situation = situation_of c;
+    replied = record { frames = []; whole = refl; built = tt; replied = refl; leads = refl };
+    stands = record { state = refl; out = λ id. refl; greatest = refl; unstopped = refl; unlimited = refl };
+    place = refl;
+  };
+  written = appends_nothing before.held;
+}
+
+-- a piece is read
+pub more_on : (from : Situation) (before now next : Streams) (c : cores.Database) (buffer : List ℕ) (at : ℕ) (piece : List ℕ)
+    → Running from before now c buffer at → Consumes now.left next.left piece → now.held ≡ next.held → Running from before next c (buffer ++ piece) at
+more_on from before now next c buffer at piece is takes keeps = record {
+  read = is.read ++ piece;
+  out = is.out;
+  consumed = consumes_then before.left now.left next.left is.read piece is.consumed takes;
+  answered = record {
+    situation = is.answered.situation;
+    replied = replied_more from is.read piece is.answered.situation is.out buffer is.answered.replied;
+    stands = is.answered.stands;
+    place = omega (arith, is.answered.place, length-append is.read piece, length-append buffer piece);
+  };
+  written = subst (λ (held : Option (List ℕ)). Appends before.held held is.out) keeps is.written;
+}
 
 -- one more frame is answered
-answered_next : (from : Situation) (read : List ℕ) (at : ℕ) (out buffer : List ℕ) (h : Head) (reply : List ℕ) (d next : cores.Whole) → AnsweredTo from read at out buffer d → IsWholeOf h buffer → Answers d (frame_with h (body_at h.len buffer)) reply next
-    → AnsweredTo from read (at + h.len) (out ++ reply) (drop h.len buffer) next
-answered_next from read at out buffer h reply d next upto w e =
+answered_next : (from : Situation) (c d : cores.Database) (read out buffer : List ℕ) (at : ℕ) (h : Head) (reply : List ℕ)
+    → CourseTo from c (record { read = read; at = at; out = out; rest = buffer }) → IsWholeOf h buffer → Answers c (frame_with h (body_at h.len buffer)) reply d
+    → CourseTo from d (record { read = read; at = at + h.len; out = out ++ reply; rest = drop h.len buffer })
+answered_next from c d read out buffer at h reply upto w e =
     let f = frame_with h (body_at h.len buffer) in
-    let said = e.1 upto.to upto.stands in
-    let one = answered_one from read upto.to out buffer f (drop h.len buffer) upto.answered w.whole e.0 in
+    let said = e.1 upto.situation upto.stands in
+    let one = replied_one from read upto.situation out buffer f (drop h.len buffer) upto.replied w.whole e.0 in
     record {
-      to = (frame_step readings upto.to f false).1;
-      answered = subst (λ (l : List ℕ). Answered from read (frame_step readings upto.to f false).1 (out ++ l) (drop h.len buffer)) said.0 one;
+      situation = (frame_step readings upto.situation f false).1;
+      replied = subst (λ (l : List ℕ). Replied from read (frame_step readings upto.situation f false).1 (out ++ l) (drop h.len buffer)) said.0 one;
       stands = said.1;
       place = omega (arith, upto.place, w.most, length-drop h.len buffer);
     }
 
-pub frame_on : (from : Situation) (left0 held0 : Option (List ℕ)) (d next : cores.Whole) (buffer : List ℕ) (at : ℕ) (left held new : Option (List ℕ)) (h : Head) (reply : List ℕ) → Running from left0 held0 d buffer at left held → IsWholeOf h buffer → Answers d (frame_with h (body_at h.len buffer)) reply next → Appends held new reply → Running from left0 held0 next (drop h.len buffer) (at + h.len) left new
-frame_on from None held0 d next buffer at left held new h reply is w e grows = tt
-frame_on from (Some all) held0 d next buffer at None held new h reply is w e grows = absurd is
-frame_on from (Some all) held0 d next buffer at (Some xs) held new h reply is w e grows =
-    let o = is.2 in
-    let n = answered_next from is.0 at o.out buffer h reply d next o.done w e in
-    (is.0, is.1, record { out = o.out ++ reply; done = n; written = appends_then held0 held new o.out reply o.written grows })
+pub frame_on : (from : Situation) (before now next : Streams) (c d : cores.Database) (buffer : List ℕ) (at : ℕ) (h : Head) (reply : List ℕ)
+    → Running from before now c buffer at → IsWholeOf h buffer → Answers c (frame_with h (body_at h.len buffer)) reply d → now.left ≡ next.left → Appends now.held next.held reply
+    → Running from before next d (drop h.len buffer) (at + h.len)
+frame_on from before now next c d buffer at h reply is w e keeps grows = record {
+  read = is.read;
+  out = is.out ++ reply;
+  consumed = subst (λ (left : Option (List ℕ)). Consumes before.left left is.read) keeps is.consumed;
+  answered = answered_next from c d is.read is.out buffer at h reply is.answered w e;
+  written = appends_then before.held now.held next.held is.out reply is.written grows;
+}
 
 -- ---- ends
 
 -- cores of one content stand for the same
-same_stands : (from : Situation) (read : List ℕ) (at : ℕ) (out rest : List ℕ) (d now : cores.Whole) → SameContent d now → AnsweredTo from read at out rest d → AnsweredTo from read at out rest now
-same_stands from read at out rest d now same upto = record {
-  to = upto.to;
-  answered = upto.answered;
+same_stands : (from : Situation) (k : Course) (c d : cores.Database) → SameContent c d → CourseTo from c k → CourseTo from d k
+same_stands from k c d same upto = record {
+  situation = upto.situation;
+  replied = upto.replied;
   stands = record {
     state = upto.stands.state ∙ sym same.state;
-    leased = λ id. upto.stands.leased id ∙ ap (λ (ids : List MsgId). is_out id ids) (sym same.out);
+    out = λ id. upto.stands.out id ∙ ap (λ (ids : List MsgId). is_out id ids) (sym same.out);
     greatest = upto.stands.greatest ∙ sym same.greatest;
     unstopped = upto.stands.unstopped;
     unlimited = upto.stands.unlimited;
@@ -147,45 +112,89 @@ same_stands from read at out rest d now same upto = record {
   place = upto.place;
 }
 
-pub ends_as : (from : Situation) (e : PipeEnd) (left0 held0 : Option (List ℕ)) (d now : cores.Whole) (buffer : List ℕ) (at : ℕ) (left held new : Option (List ℕ)) (ended : Bool) → Running from left0 held0 d buffer at left held
-    → ((read rest : List ℕ) → (let told : Option (List ℕ) = Some rest in left ≡ told) → Ongoing from d buffer at held0 held read → Ran from e ended read rest held0 new now)
-    → RanOver from e left0 held0 left ended new now
-ends_as from e None held0 d now buffer at left held new ended is last = tt
-ends_as from e (Some all) held0 d now buffer at None held new ended is last = absurd is
-ends_as from e (Some all) held0 d now buffer at (Some xs) held new ended is last = (is.0, is.1, last is.0 xs refl is.2)
+pub memory_ends : (from : Situation) (before now : Streams) (c d : cores.Database) (buffer : List ℕ) (at : ℕ) → at < MAX_PLACE → SameContent c d → Running from before now c buffer at
+    → Ran end.NoMemory from before now d
+memory_ends from before now c d buffer at early same is = record {
+  course = record { read = is.read; at = at; out = is.out; rest = buffer };
+  read = is.consumed;
+  answered = same_stands from (record { read = is.read; at = at; out = is.out; rest = buffer }) c d same is.answered;
+  written = is.written;
+  ends = early;
+}
 
-pub memory_ends : (from : Situation) (left0 held0 : Option (List ℕ)) (d now : cores.Whole) (buffer : List ℕ) (at : ℕ) (left held : Option (List ℕ)) (ended : Bool) → SameContent d now → Running from left0 held0 d buffer at left held → RanOver from end.NoMemory left0 held0 left ended held now
-memory_ends from left0 held0 d now buffer at left held ended same is = ends_as from end.NoMemory left0 held0 d now buffer at left held held ended is (λ read rest told o.
-    (at, o.out, buffer, same_stands from read at o.out buffer d now same o.done, o.written))
-
-pub read_fault_ends : (from : Situation) (left0 held0 : Option (List ℕ)) (d : cores.Whole) (buffer : List ℕ) (at : ℕ) (left held : Option (List ℕ)) (ended : Bool) → at < 2 ^ 63 → front buffer ≡ Partial → Running from left0 held0 d buffer at left held → RanOver from end.ReadFault left0 held0 left ended held d
-read_fault_ends from left0 held0 d buffer at left held ended early part is = ends_as from end.ReadFault left0 held0 d d buffer at left held held ended is (λ read rest told o. (at, o.out, buffer, o.done, early, part, o.written))
+pub read_fault_ends : (from : Situation) (before now : Streams) (c : cores.Database) (buffer : List ℕ) (at : ℕ) → at < MAX_PLACE → front buffer ≡ Partial → Running from before now c buffer at → Ran end.ReadFault from before now c
+read_fault_ends from before now c buffer at early part is = record {
+  course = record { read = is.read; at = at; out = is.out; rest = buffer };
+  read = is.consumed;
+  answered = is.answered;
+  written = is.written;
+  ends = record { early = early; part = part };
+}
 
 -- the source said End between two frames
-pub input_ends : (from : Situation) (left0 held0 : Option (List ℕ)) (d : cores.Whole) (buffer : List ℕ) (at : ℕ) (left held : Option (List ℕ)) (ended : Bool) → at < 2 ^ 63 → buffer ≡ [] → IsAtEnd left → Running from left0 held0 d buffer at left held → RanOver from end.Ok left0 held0 left ended held d
-input_ends from left0 held0 d buffer at left held ended early none last is = ends_as from end.Ok left0 held0 d d buffer at left held held ended is (λ read rest told o.
-    let counted : length read ≡ at = omega (arith, o.done.place, ap length none) in
-    let done : AnsweredTo from read (length read) o.out [] d = subst (λ (n : ℕ). AnsweredTo from read n o.out [] d) (sym counted) (subst (λ (l : List ℕ). AnsweredTo from read at o.out l d) none o.done) in
-    (o.out, done, omega (arith, counted, early), nothing_left left rest told last, o.written))
+pub input_ends : (from : Situation) (before now : Streams) (c : cores.Database) (buffer : List ℕ) (at : ℕ) → at < MAX_PLACE → buffer ≡ [] → IsAtEnd now.left → Running from before now c buffer at → Ran end.Ok from before now c
+input_ends from before now c buffer at early none last is = record {
+  course = record { read = is.read; at = at; out = is.out; rest = buffer };
+  read = is.consumed;
+  answered = is.answered;
+  written = is.written;
+  ends = record { early = early; none = none; last = last };
+}
 
--- no frame begins at `at`
-pub bad_frame_ends : (from : Situation) (left0 held0 : Option (List ℕ)) (d : cores.Whole) (buffer : List ℕ) (at : ℕ) (left held : Option (List ℕ)) (ended : Bool)
-    → ((rest : List ℕ) → (let told : Option (List ℕ) = Some rest in left ≡ told) → NoFrame at ended buffer rest)
-    → Running from left0 held0 d buffer at left held → RanOver from (end.BadFrame at) left0 held0 left ended held d
-bad_frame_ends from left0 held0 d buffer at left held ended none is = ends_as from (end.BadFrame at) left0 held0 d d buffer at left held held ended is (λ read rest told o. (o.out, buffer, o.done, none rest told, o.written))
+-- no frame begins at the place
+pub bad_frame_ends : (from : Situation) (before now : Streams) (c : cores.Database) (buffer : List ℕ) (at : ℕ) → NoFrame now at buffer → Running from before now c buffer at → Ran (end.BadFrame at) from before now c
+bad_frame_ends from before now c buffer at none is = record {
+  course = record { read = is.read; at = at; out = is.out; rest = buffer };
+  read = is.consumed;
+  answered = is.answered;
+  written = is.written;
+  ends = (refl, none);
+}
 
 -- the source said End within a frame
-pub cut_ends : (from : Situation) (left0 held0 : Option (List ℕ)) (d : cores.Whole) (buffer : List ℕ) (at : ℕ) (left held : Option (List ℕ)) (ended : Bool) → front buffer ≡ Partial → 0 < length buffer → IsAtEnd left → IsTrue ended → Running from left0 held0 d buffer at left held → RanOver from (end.BadFrame at) left0 held0 left ended held d
-cut_ends from left0 held0 d buffer at left held ended part some last said is =
-    bad_frame_ends from left0 held0 d buffer at left held ended (λ rest told. inr (inl (part, some, nothing_left left rest told last, said))) is
+pub cut_ends : (from : Situation) (before now : Streams) (c : cores.Database) (buffer : List ℕ) (at : ℕ) → front buffer ≡ Partial → 0 < length buffer → IsAtEnd now.left → IsTrue now.ended → Running from before now c buffer at → Ran (end.BadFrame at) from before now c
+cut_ends from before now c buffer at part some last said is =
+    bad_frame_ends from before now c buffer at (inr (inl (record { part = part; some = some; last = last; said = said }))) is
 
-pub fault_ends : (from : Situation) (left0 held0 : Option (List ℕ)) (d next : cores.Whole) (buffer : List ℕ) (at : ℕ) (left held new : Option (List ℕ)) (ended : Bool) (h : Head) (reply : List ℕ) → Running from left0 held0 d buffer at left held → IsWholeOf h buffer → Answers d (frame_with h (body_at h.len buffer)) reply next → AppendsFront held new reply → RanOver from end.WriteFault left0 held0 left ended new next
-fault_ends from left0 held0 d next buffer at left held new ended h reply is w e grows = ends_as from end.WriteFault left0 held0 d next buffer at left held new ended is (λ read rest told o.
-    let n = answered_next from read at o.out buffer h reply d next o.done w e in
-    (at + h.len, o.out ++ reply, drop h.len buffer, n, appends_front_then held0 held new o.out reply o.written grows))
+-- the bytes at the front are refused
+pub refused_ends : (from : Situation) (before now : Streams) (c : cores.Database) (buffer : List ℕ) (at : ℕ) → front buffer ≡ Refused → Running from before now c buffer at → Ran (end.BadFrame at) from before now c
+refused_ends from before now c buffer at refused is = bad_frame_ends from before now c buffer at (inl refused) is
+
+-- a frame is answered, and the write of the reply fails
+pub fault_ends : (from : Situation) (before now next : Streams) (c d : cores.Database) (buffer : List ℕ) (at : ℕ) (h : Head) (reply : List ℕ)
+    → at < MAX_PLACE → Running from before now c buffer at → IsWholeOf h buffer → Answers c (frame_with h (body_at h.len buffer)) reply d → now.left ≡ next.left
+    → AppendsFront now.held next.held reply → Ran end.WriteFault from before next d
+fault_ends from before now next c d buffer at h reply early is w e keeps grows = record {
+  course = record { read = is.read; at = at + h.len; out = is.out ++ reply; rest = drop h.len buffer };
+  read = subst (λ (left : Option (List ℕ)). Consumes before.left left is.read) keeps is.consumed;
+  answered = answered_next from c d is.read is.out buffer at h reply is.answered w e;
+  written = record {
+    at = at;
+    rest = buffer;
+    situation = is.answered.situation;
+    frame = frame_with h (body_at h.len buffer);
+    earlier = is.out;
+    last = reply;
+    held = now.held;
+    early = early;
+    place = is.answered.place;
+    replied = is.answered.replied;
+    next = w.whole;
+    reply = sym (e.1 is.answered.situation is.answered.stands).0;
+    out = refl;
+    written = is.written;
+    part = grows;
+  };
+  ends = tt;
+}
 
 -- a frame that isn't built
-pub unbuilt_ends : (from : Situation) (left0 held0 : Option (List ℕ)) (d now : cores.Whole) (buffer : List ℕ) (at : ℕ) (left held : Option (List ℕ)) (ended : Bool) (h : Head) → at < 2 ^ 63 → SameContent d now → Running from left0 held0 d buffer at left held → IsWholeOf h buffer → is_built (frame_with h (body_at h.len buffer)) ≡ false
-    → RanOver from (end.NotBuilt at) left0 held0 left ended held now
-unbuilt_ends from left0 held0 d now buffer at left held ended h early same is w none = ends_as from (end.NotBuilt at) left0 held0 d now buffer at left held held ended is (λ read rest told o.
-    (o.out, buffer, same_stands from read at o.out buffer d now same o.done, early, (frame_with h (body_at h.len buffer), drop h.len buffer, w.whole, none), o.written))
+pub unbuilt_ends : (from : Situation) (before now : Streams) (c d : cores.Database) (buffer : List ℕ) (at : ℕ) (h : Head) → at < MAX_PLACE → SameContent c d → Running from before now c buffer at → IsWholeOf h buffer → is_built h.kind ≡ false
+    → Ran (end.NotBuilt at) from before now d
+unbuilt_ends from before now c d buffer at h early same is w none = record {
+  course = record { read = is.read; at = at; out = is.out; rest = buffer };
+  read = is.consumed;
+  answered = same_stands from (record { read = is.read; at = at; out = is.out; rest = buffer }) c d same is.answered;
+  written = is.written;
+  ends = (refl, record { frame = frame_with h (body_at h.len buffer); more = drop h.len buffer; early = early; whole = w.whole; unbuilt = none });
+}

@@ -1,7 +1,17 @@
 -- Which frames are answered yet.
---     is_built f      a read, a write, a take, an acknowledgement or a failure
-use Rattle.std.specs.Prelude.{Bool, ◌||◌, ◌==◌}
-use Rattle.dkv_base.specs.Pipe.{PipeFrame}
+--     is_built k      a read, a write, a take, an acknowledgement or a failure
+use Rattle.std.specs.Prelude.{Bool, true, false}
+use Rattle.dkv_pipe.specs.declared.frame_kind.FrameKind.{FrameKind}
+use Rattle.dkv_pipe.specs.declared.frame_kind.FrameKind.TheVariants as kind
 
-abbrev pub is_built : PipeFrame → Bool
-is_built f = (f.kind == 1) || (f.kind == 2) || (f.kind == 5) || (f.kind == 6) || (f.kind == 7)
+-- the pipe answers frames of this kind
+abbrev pub is_built : FrameKind → Bool
+is_built kind.Read = true
+is_built kind.Write = true
+is_built kind.Watch = false
+is_built kind.Poll = false
+is_built kind.Take = true
+is_built kind.Acknowledge = true
+is_built kind.Fail = true
+is_built kind.Checkpoint = false
+is_built kind.Term = false

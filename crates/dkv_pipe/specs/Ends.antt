@@ -1,63 +1,126 @@
 -- How a run over frames may end.
---     RanOver from e left0 held0 left ended held d      a run that began in the situation, and leads to one of the core d
---     RanFrom e left0 held0 left ended held      a run over a new database
-use Rattle.std.specs.Prelude.{◌≡◌, ◌⊎◌, ℕ, ◌+◌, ◌<◌, ◌≤◌, ◌^◌, Bool, false, List, [], ◌++◌, length, None, Some, ⊤, IsTrue}
+--     Streams      what a source and a sink tell of their bytes
+--     Course, CourseTo from to c      how far a run came, and from which situation to which core
+--     Ran e from before after to      a run over these streams, from a situation to a core, ended so
+--     RanNew e before after      a run over a new database
+--     HasEndCause e ended read_rose write_rose      what each end needs besides
+use Rattle.std.specs.Prelude.{◌≡◌, ◌⊎◌, ℕ, ◌+◌, ◌<◌, ◌≤◌, Bool, false, List, [], ◌++◌, length, ⊤, IsTrue}
 use Rattle.std.specs.declared.option.Option.{Option}
-use Rattle.std.specs.Io.KnownBytes.{Appends}
+use Rattle.std.specs.Io.KnownBytes.{Appends, Consumes, IsAtEnd}
 use Rattle.dkv_io.specs.Streams.{AppendsFront}
 use Rattle.dkv_base.specs.Steps.{Situation}
-use Rattle.dkv_base.specs.Pipe.{PipeFrame}
 use Rattle.dkv_core.specs.Cores as cores
 use Rattle.dkv_core.specs.Runs.{StandsFor}
-use Rattle.dkv_pipe.specs.Frames.{Whole, Partial, Refused, front}
-use Rattle.dkv_pipe.specs.Built.{is_built}
-use Rattle.dkv_pipe.specs.Answers.{started, Answered}
 use Rattle.dkv_pipe.specs.declared.pipe.PipeEnd.{PipeEnd}
 use Rattle.dkv_pipe.specs.declared.pipe.PipeEnd.TheVariants as end
+use Rattle.dkv_pipe.specs.declared.sizes.TheConstants.{MAX_PLACE}
+use Rattle.dkv_pipe.specs.Frames.{PipeFrame, Whole, Partial, Refused, front}
+use Rattle.dkv_pipe.specs.Built.{is_built}
+use Rattle.dkv_pipe.specs.Wishes.{readings}
+use Rattle.dkv_pipe.specs.Pipe.{frame_step}
+use Rattle.dkv_pipe.specs.Replied.{started, Replied}
 
--- told bytes are these and then what is left
-abbrev pub Reads : Option (List ℕ) → Option (List ℕ) → (List ℕ → List ℕ → Type 0) → Type 0
-Reads None new P = ⊤
-Reads (Some all) None P = ⊥
-Reads (Some all) (Some left) P = (read : List ℕ) × (all ≡ read ++ left) × P read left
+-- what the source has left, and whether it said End; what the sink holds
+pub record Streams : Type 0 where
+  pub left : Option (List ℕ)
+  pub ended : Bool
+  pub held : Option (List ℕ)
 
--- The frames before `at` were read and answered with `out`, which leads to a situation of the core, and `rest` was read behind them.
-pub record AnsweredTo (from : Situation) (read : List ℕ) (at : ℕ) (out rest : List ℕ) (d : cores.Whole) : Type 0 where
-  pub to : Situation
-  pub answered : Answered from read to out rest
-  pub stands : StandsFor to d
-  pub place : length read ≡ at + length rest
+-- the three of them
+abbrev pub streams : Option (List ℕ) → Bool → Option (List ℕ) → Streams
+streams left ended held = record { left = left; ended = ended; held = held }
 
--- what is behind the answered frames is no whole frame: it is refused, or the source ended within it, or it begins too late
-abbrev pub NoFrame : ℕ → Bool → List ℕ → List ℕ → Type 0
-NoFrame at ended rest left = (front rest ≡ Refused) ⊎ ((front rest ≡ Partial) × (0 < length rest) × (left ≡ []) × IsTrue ended) ⊎ (2 ^ 63 ≤ at)
+-- what was read, the place up to which it was answered, by which replies, and what is behind
+pub record Course : Type 0 where
+  pub read : List ℕ
+  pub at : ℕ
+  pub out : List ℕ
+  pub rest : List ℕ
 
--- a frame that isn't answered yet
-abbrev pub Unbuilt : List ℕ → Type 0
-Unbuilt rest = (f : PipeFrame) × (more : List ℕ) × (front rest ≡ Whole f more) × (is_built f ≡ false)
+-- the frames before the place were replied to so, which leads from the situation to one of the core
+pub record CourseTo (from : Situation) (to : cores.Database) (c : Course) : Type 0 where
+  pub situation : Situation
+  pub replied : Replied from c.read situation c.out c.rest
+  pub stands : StandsFor situation to
+  pub place : length c.read ≡ c.at + length c.rest
 
--- What was read and written, by the end. The bytes read are `read`, and `left` is what the source still has.
-abbrev pub Ran : Situation → PipeEnd → Bool → List ℕ → List ℕ → Option (List ℕ) → Option (List ℕ) → cores.Whole → Type 0
--- all of the input was read, and is frames that were answered
-Ran from end.Ok ended read left old new d = (out : List ℕ) × AnsweredTo from read (length read) out [] d × (length read < 2 ^ 63) × (left ≡ []) × Appends old new out
--- the frames before `at` were answered, and none begins there
-Ran from (end.BadFrame at) ended read left old new d = (out : List ℕ) × (rest : List ℕ) × AnsweredTo from read at out rest d × NoFrame at ended rest left × Appends old new out
--- the frames before `at` were answered, and the one there isn't answered yet
-Ran from (end.NotBuilt at) ended read left old new d = (out : List ℕ) × (rest : List ℕ) × AnsweredTo from read at out rest d × (at < 2 ^ 63) × Unbuilt rest × Appends old new out
--- the whole frames that were read were answered, and what is behind them is less than one
-Ran from end.ReadFault ended read left old new d = (at : ℕ) × (out : List ℕ) × (rest : List ℕ) × AnsweredTo from read at out rest d × (at < 2 ^ 63) × (front rest ≡ Partial) × Appends old new out
--- a front of the answers was written
-Ran from end.WriteFault ended read left old new d = (at : ℕ) × (out : List ℕ) × (rest : List ℕ) × AnsweredTo from read at out rest d × AppendsFront old new out
--- some of the whole frames that were read were answered
-Ran from end.NoMemory ended read left old new d = (at : ℕ) × (out : List ℕ) × (rest : List ℕ) × AnsweredTo from read at out rest d × Appends old new out
+-- the source ended within a frame
+pub record IsCut (after : Streams) (rest : List ℕ) : Type 0 where
+  pub part : front rest ≡ Partial
+  pub some : 0 < length rest
+  pub last : IsAtEnd after.left
+  pub said : IsTrue after.ended
 
--- the same of a source that had left0, and a sink that held held0, where they tell it
-abbrev pub RanOver : Situation → PipeEnd → Option (List ℕ) → Option (List ℕ) → Option (List ℕ) → Bool → Option (List ℕ) → cores.Whole → Type 0
-RanOver from e left0 held0 left ended held d = Reads left0 left (λ read rest. Ran from e ended read rest held0 held d)
+-- no frame begins behind the answered ones: its bytes are refused, or cut, or it would begin too late
+abbrev pub NoFrame : Streams → ℕ → List ℕ → Type 0
+NoFrame after at rest = (front rest ≡ Refused) ⊎ IsCut after rest ⊎ (MAX_PLACE ≤ at)
+
+-- a frame behind the answered ones that isn't answered yet
+pub record Unbuilt (at : ℕ) (rest : List ℕ) : Type 0 where
+  pub frame : PipeFrame
+  pub more : List ℕ
+  pub early : at < MAX_PLACE
+  pub whole : front rest ≡ Whole frame more
+  pub unbuilt : is_built frame.kind ≡ false
+
+-- all of the input was read and answered
+pub record IsAll (after : Streams) (at : ℕ) (rest : List ℕ) : Type 0 where
+  pub early : at < MAX_PLACE
+  pub none : rest ≡ []
+  pub last : IsAtEnd after.left
+
+-- less than a frame is behind the answered ones
+pub record IsPart (at : ℕ) (rest : List ℕ) : Type 0 where
+  pub early : at < MAX_PLACE
+  pub part : front rest ≡ Partial
+
+-- what each end says of the place up to which frames were answered, and of what was read behind it
+abbrev pub EndsAt : PipeEnd → Streams → ℕ → List ℕ → Type 0
+EndsAt end.Ok after at rest = IsAll after at rest
+EndsAt (end.BadFrame place) after at rest = (place ≡ at) × NoFrame after at rest
+EndsAt (end.NotBuilt place) after at rest = (place ≡ at) × Unbuilt at rest
+EndsAt end.ReadFault after at rest = IsPart at rest
+EndsAt end.WriteFault after at rest = ⊤
+EndsAt end.NoMemory after at rest = at < MAX_PLACE
+
+-- the write of the last frame's reply failed: the replies to the frames before it were written whole, and of this one a front
+pub record IsLastUnwritten (from : Situation) (old new : Option (List ℕ)) (c : Course) : Type 0 where
+  -- the place of the last frame, what stood there, and where the frames before it lead
+  pub at : ℕ
+  pub rest : List ℕ
+  pub situation : Situation
+  pub frame : PipeFrame
+  -- the replies to the frames before it, and its own
+  pub earlier : List ℕ
+  pub last : List ℕ
+  -- what the sink held between the two
+  pub held : Option (List ℕ)
+  pub early : at < MAX_PLACE
+  pub place : length c.read ≡ at + length rest
+  pub replied : Replied from c.read situation earlier rest
+  pub next : front rest ≡ Whole frame c.rest
+  pub reply : last ≡ (frame_step readings situation frame false).0
+  pub out : c.out ≡ earlier ++ last
+  pub written : Appends old held earlier
+  pub part : AppendsFront held new last
+
+-- all of the replies were written, but for the last one where a write failed
+abbrev pub Writes : PipeEnd → Situation → Option (List ℕ) → Option (List ℕ) → Course → Type 0
+Writes end.WriteFault from old new c = IsLastUnwritten from old new c
+Writes _ from old new c = Appends old new c.out
+
+-- what was read, answered and written, and where that ended
+pub record Ran (e : PipeEnd) (from : Situation) (before after : Streams)
+    (to : cores.Database) : Type 0 where
+  pub course : Course
+  pub read : Consumes before.left after.left course.read
+  pub answered : CourseTo from to course
+  pub written : Writes e from before.held after.held course
+  pub ends : EndsAt e after course.at course.rest
 
 -- the same over a new database, whatever became of it
-abbrev pub RanFrom : PipeEnd → Option (List ℕ) → Option (List ℕ) → Option (List ℕ) → Bool → Option (List ℕ) → Type 0
-RanFrom e left0 held0 left ended held = (d : cores.Whole) × RanOver started e left0 held0 left ended held d
+abbrev pub RanNew : PipeEnd → Streams → Streams → Type 0
+RanNew e before after = (to : cores.Database) × Ran e started before after to
 
 -- what each end needs besides: that the source said End, or which count rose
 abbrev pub HasEndCause : PipeEnd → Bool → Type 0 → Type 0 → Type 0

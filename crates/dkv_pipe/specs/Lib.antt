@@ -1,7 +1,11 @@
+pub mod Codes
 pub mod Frames
+pub mod Wishes
+pub mod ReplyFrames
+pub mod Pipe
 pub mod Built
-pub mod Answers
-pub mod Replies
+pub mod Replied
+pub mod Grants
 pub mod Ends
 pub mod Running
 pub mod Laws

@@ -1,19 +1,21 @@
 -- A run that goes on.
+--     IsLook look bytes      what a look at some bytes says of their front
+--     Running from before now core buffer at      all before `at` is answered, and the buffer was read since
+--     OnOrEnds progress on ends      what holds where a step goes on, or where it ends the run
 use Rattle.std.specs.Prelude.{◌≡◌, ℕ, ◌+◌, ◌-◌, ◌^◌, ◌<◌, ◌≤◌, IsTrue, List, length, take, drop}
-use Rattle.std.specs.declared.option.Option.{Option}
-use Rattle.std.specs.Io.KnownBytes.{Appends}
+use Rattle.std.specs.Io.KnownBytes.{Appends, Consumes}
 use Rattle.dkv_base.specs.Steps.{Situation}
-use Rattle.dkv_base.specs.Pipe.{PipeFrame, is_body_length}
-use Rattle.dkv_core.specs.Cores.{Whole}
-use Rattle.dkv_pipe.specs.Frames.{front}
-use Rattle.dkv_pipe.specs.Frames as frames
-use Rattle.dkv_pipe.specs.Ends.{Reads, AnsweredTo}
+use Rattle.dkv_core.specs.Cores as cores
 use Rattle.dkv_pipe.specs.declared.frames.Head.{Head}
 use Rattle.dkv_pipe.specs.declared.frames.Look.{Look}
 use Rattle.dkv_pipe.specs.declared.frames.Look.TheVariants as look
 use Rattle.dkv_pipe.specs.declared.pipe.PipeEnd.{PipeEnd}
-use Rattle.dkv_pipe.specs.declared.pipe.Step.{Step}
-use Rattle.dkv_pipe.specs.declared.pipe.Step.TheVariants as step
+use Rattle.dkv_pipe.specs.declared.pipe.Progress.{Progress}
+use Rattle.dkv_pipe.specs.declared.pipe.Progress.TheVariants as progress
+use Rattle.dkv_pipe.specs.declared.sizes.TheConstants.{BODY_PLACE, MAX_FRAME_BYTES}
+use Rattle.dkv_pipe.specs.Frames.{PipeFrame, is_body_length, front}
+use Rattle.dkv_pipe.specs.Frames as frames
+use Rattle.dkv_pipe.specs.Ends.{Streams, CourseTo}
 
 -- the frame with this head and body
 abbrev pub frame_with : Head → List ℕ → PipeFrame
@@ -21,36 +23,35 @@ frame_with h body = record { caller = h.caller; moment = h.moment; kind = h.kind
 
 -- the body of a frame of this length at the front
 abbrev pub body_at : ℕ → List ℕ → List ℕ
-body_at len bytes = take (len - 17) (drop 17 bytes)
+body_at len bytes = take (len - BODY_PLACE) (drop BODY_PLACE bytes)
 
 -- a whole frame with this head stands at the front
 pub record IsWholeOf (h : Head) (bytes : List ℕ) : Type 0 where
   pub whole : front bytes ≡ frames.Whole (frame_with h (body_at h.len bytes)) (drop h.len bytes)
-  pub least : 17 ≤ h.len
+  pub least : BODY_PLACE ≤ h.len
   pub most : h.len ≤ length bytes
-  pub fits : IsTrue (is_body_length h.kind (h.len - 17))
+  pub fits : IsTrue (is_body_length h.kind (h.len - BODY_PLACE))
 
 -- what stands at the front of the bytes
 abbrev pub IsLook : Look → List ℕ → Type 0
 IsLook (look.Whole head) bytes = IsWholeOf head bytes
-IsLook look.Partial bytes = (front bytes ≡ frames.Partial) × (length bytes < 2097169)
+IsLook look.Partial bytes = (front bytes ≡ frames.Partial) × (length bytes < MAX_FRAME_BYTES)
 IsLook look.Refused bytes = front bytes ≡ frames.Refused
 
--- The frames before `at` were read and answered, which leads to a situation of the core, and the buffer has what was read since.
-pub record Ongoing (from : Situation) (d : Whole) (buffer : List ℕ) (at : ℕ) (old new : Option (List ℕ)) (read : List ℕ) : Type 0 where
+-- all before the place was read, answered and written, and the buffer has what was read since
+pub record Running (from : Situation) (before now : Streams) (core : cores.Database)
+    (buffer : List ℕ) (at : ℕ) : Type 0 where
+  pub read : List ℕ
   pub out : List ℕ
-  pub done : AnsweredTo from read at out buffer d
-  pub written : Appends old new out
+  pub consumed : Consumes before.left now.left read
+  pub answered : CourseTo from core (record { read = read; at = at; out = out; rest = buffer })
+  pub written : Appends before.held now.held out
 
--- the same of a source that had left0, and a sink that held held0, where they tell it
-abbrev pub Running : Situation → Option (List ℕ) → Option (List ℕ) → Whole → List ℕ → ℕ → Option (List ℕ) → Option (List ℕ) → Type 0
-Running from left0 held0 d buffer at left held = Reads left0 left (λ read rest. Ongoing from d buffer at held0 held read)
+-- a step goes on, or ends the run
+abbrev pub OnOrEnds : Progress → Type 0 → (PipeEnd → Type 0) → Type 0
+OnOrEnds progress.On on ends = on
+OnOrEnds (progress.Ends e) on ends = ends e
 
--- A step goes on, or ends the run.
-abbrev pub Steps : Step → Type 0 → (PipeEnd → Type 0) → Type 0
-Steps step.On on ends = on
-Steps (step.Ends e) on ends = ends e
-
--- what is left to do, as a number that falls
+-- what is left to do, as a number that falls: room for places, and for what the buffer may get
 abbrev pub to_do : ℕ → ℕ → ℕ
 to_do at len = (2 ^ 64 - at - len) + (2 ^ 64 - at)

@@ -1,26 +1,32 @@
 // The reply to each frame, and what it changes in the core.
 ghost use Rattle.std.specs.Prelude.{ℕ, ◌≡◌, ◌+◌, ◌-◌, ◌^◌, ◌<◌, ◌≤◌, false, length, IfOk, IsErrOf, IsTrue, OnErr};
 ghost use Rattle.dkv_base.specs.declared.types.Ask.TheVariants.{Read, Write, Take};
-ghost use Rattle.dkv_base.specs.Pipe.{asks, is_body_length, wish_of_read};
-ghost use Rattle.dkv_msgs.specs.Readings.{readings};
 ghost use Rattle.dkv_core.specs.Cores.{SameContent};
 ghost use Rattle.dkv_core.specs.Decisions.{may_ask};
+ghost use Rattle.dkv_pipe.specs.Frames.{is_body_length};
+ghost use Rattle.dkv_pipe.specs.Wishes.{asks, readings, wish_of_read};
 ghost use Rattle.dkv_pipe.specs.Built.{is_built};
-ghost use Rattle.dkv_pipe.specs.Replies.{Answers, Grants, ask_of};
+ghost use Rattle.dkv_pipe.specs.Grants.{Answers, Grants, ask_of};
 ghost use Rattle.dkv_pipe.specs.Running.{frame_with};
 
+use crate::frame_kind::FrameKind;
 use crate::frames::{Head, id_of};
 use crate::replies::{leased, limited, made, malformed, no_lease, nothing, reply_frame};
+use crate::reply_status::ReplyStatus;
 use dkv_atomic::read_limits;
 use dkv_base::{Bytes, Call, NoMemory, ReadRange};
 use dkv_core::{Core, Decided, NextDue};
 use dkv_msgs::{ReadError, fails_reply, read_atomic_write, read_reply, read_snapshot_read};
 use std::alloc::Global;
+use thiserror::Error;
 
 /// Why a frame got no answer.
-#[derive(Clone, Copy, Debug, PartialEq, Eq)]
+#[derive(Clone, Copy, Debug, Error, PartialEq, Eq)]
 pub(crate) enum Unanswered {
+    /// Frames of its kind aren't answered yet.
+    #[error("not built")]
     NotBuilt,
+    #[error("no memory")]
     NoMemory,
 }
 
@@ -42,7 +48,8 @@ fn read_ranges(
     moment: u64,
     ranges: &[ReadRange],
 ) -> Result<Bytes, NoMemory>
-    ensures reply { IfOk result (λ out. (who : ℕ) → Grants core.old (asks (Read ranges.now)) who moment out core.new) }
+    ensures reply { IfOk result (λ out.
+        (who : ℕ) → Grants core.old (asks (Read ranges.now)) who moment out core.new) }
     ensures state { core.new.state ≡ core.old.state }
     ensures same { OnErr result (SameContent core.old core.new) }
 {
@@ -52,14 +59,15 @@ fn read_ranges(
     let effective = core.moment(moment);
     let found = core.read(alloc, ranges, effective)?;
     let body = read_reply(alloc, found)?;
-    let reply = reply_frame(alloc, 0, body.as_slice())?;
+    let reply = reply_frame(alloc, ReplyStatus::Done, body.as_slice())?;
     core.raise(effective);
     Ok(reply)
 }
 
 // The reply to a body that asks for a read.
 fn answer_read(core: &mut Core, alloc: Global, moment: u64, body: &[u8]) -> Result<Bytes, NoMemory>
-    ensures reply { IfOk result (λ out. (who : ℕ) → Grants core.old (wish_of_read Read (readings.read_of body.now)) who moment out core.new) }
+    ensures reply { IfOk result (λ out. (who : ℕ) →
+        Grants core.old (wish_of_read Read (readings.read_of body.now)) who moment out core.new) }
     ensures state { core.new.state ≡ core.old.state }
     ensures same { OnErr result (SameContent core.old core.new) }
 {
@@ -70,7 +78,8 @@ fn answer_read(core: &mut Core, alloc: Global, moment: u64, body: &[u8]) -> Resu
     }
 }
 
-// The reply to a call, which may be made, and the commit where it goes. All memory is taken before anything changes.
+// The reply to a call that may be made, and the commit where it goes. All memory is taken before
+// anything changes.
 fn make(
     core: &mut Core,
     alloc: Global,
@@ -80,7 +89,8 @@ fn make(
 ) -> Result<Bytes, NoMemory>
     requires numbered { core.old.state.number < 2 ^ 64 - 1 }
     requires out { IsTrue (may_ask core.old call.now) }
-    ensures reply { IfOk result (λ out. Grants core.old (asks (ask_of call.now)) who moment out core.new) }
+    ensures reply { IfOk result (λ out.
+        Grants core.old (asks (ask_of call.now)) who moment out core.new) }
     ensures next { core.new.state.number ≤ core.old.state.number + 1 }
     ensures same { OnErr result (SameContent core.old core.new) }
 {
@@ -89,12 +99,12 @@ fn make(
         Decided::Limit(passed) => limited(alloc, passed),
         Decided::Fails(places) => {
             let body = fails_reply(alloc, places)?;
-            let reply = reply_frame(alloc, 0, body.as_slice())?;
+            let reply = reply_frame(alloc, ReplyStatus::Done, body.as_slice())?;
             core.raise(at);
             Ok(reply)
         }
         Decided::NotU64 { index } => {
-            let reply = reply_frame(alloc, 3, &index.to_le_bytes())?;
+            let reply = reply_frame(alloc, ReplyStatus::NotU64, &index.to_le_bytes())?;
             core.raise(at);
             Ok(reply)
         }
@@ -111,17 +121,6 @@ fn make(
     }
 }
 
-// Whether a call may be made: a settlement only of a message that is out.
-fn may_be_made(core: &Core, call: &Call) -> bool
-    ensures { result ≡ may_ask core.now call.now }
-{
-    match call {
-        Call::Write(_) => true,
-        Call::Ack(id) => core.is_out(*id),
-        Call::Fail(id) => core.is_out(*id),
-    }
-}
-
 // The reply to a call.
 fn answer_call(
     core: &mut Core,
@@ -131,11 +130,12 @@ fn answer_call(
     call: &Call,
 ) -> Result<Bytes, NoMemory>
     requires { core.old.state.number < 2 ^ 64 - 1 }
-    ensures reply { IfOk result (λ out. Grants core.old (asks (ask_of call.now)) who moment out core.new) }
+    ensures reply { IfOk result (λ out.
+        Grants core.old (asks (ask_of call.now)) who moment out core.new) }
     ensures next { core.new.state.number ≤ core.old.state.number + 1 }
     ensures same { OnErr result (SameContent core.old core.new) }
 {
-    if may_be_made(core, call) {
+    if core.may_ask(call) {
         make(core, alloc, who, moment, call)
     } else {
         no_lease(alloc)
@@ -151,7 +151,8 @@ fn answer_write(
     body: &[u8],
 ) -> Result<Bytes, NoMemory>
     requires { core.old.state.number < 2 ^ 64 - 1 }
-    ensures reply { IfOk result (λ out. Grants core.old (wish_of_read Write (readings.write_of body.now)) who moment out core.new) }
+    ensures reply { IfOk result (λ out.
+        Grants core.old (wish_of_read Write (readings.write_of body.now)) who moment out core.new) }
     ensures next { core.new.state.number ≤ core.old.state.number + 1 }
     ensures same { OnErr result (SameContent core.old core.new) }
 {
@@ -164,7 +165,8 @@ fn answer_write(
 
 // The reply to a take. All memory is taken before the message is out.
 fn answer_take(core: &mut Core, alloc: Global, moment: u64) -> Result<Bytes, NoMemory>
-    ensures reply { IfOk result (λ out. (who : ℕ) → Grants core.old (asks Take) who moment out core.new) }
+    ensures reply { IfOk result (λ out.
+        (who : ℕ) → Grants core.old (asks Take) who moment out core.new) }
     ensures state { core.new.state ≡ core.old.state }
     ensures same { OnErr result (SameContent core.old core.new) }
 {
@@ -195,17 +197,25 @@ pub(crate) fn answer(
     requires numbered { core.old.state.number < 2 ^ 64 - 1 }
     requires fits { IsTrue (is_body_length head.kind (length body.now)) }
     ensures ok { IfOk result (λ out. Answers core.old (frame_with head body.now) out core.new) }
-    ensures unbuilt { IsErrOf result Unanswered.NotBuilt → is_built (frame_with head body.now) ≡ false }
+    ensures unbuilt { IsErrOf result Unanswered.NotBuilt → is_built head.kind ≡ false }
     ensures next { core.new.state.number ≤ core.old.state.number + 1 }
     ensures same { OnErr result (SameContent core.old core.new) }
 {
     let (who, moment) = (head.caller, head.moment);
     match head.kind {
-        1 => Ok(answer_read(core, alloc, moment, body)?),
-        2 => Ok(answer_write(core, alloc, who, moment, body)?),
-        5 => Ok(answer_take(core, alloc, moment)?),
-        6 => Ok(answer_call(core, alloc, who, moment, &Call::Ack(id_of(body)))?),
-        7 => Ok(answer_call(core, alloc, who, moment, &Call::Fail(id_of(body)))?),
-        _ => Err(Unanswered::NotBuilt),
+        FrameKind::Read => Ok(answer_read(core, alloc, moment, body)?),
+        FrameKind::Write => Ok(answer_write(core, alloc, who, moment, body)?),
+        FrameKind::Take => Ok(answer_take(core, alloc, moment)?),
+        FrameKind::Acknowledge => {
+            let call = Call::Ack(id_of(body));
+            Ok(answer_call(core, alloc, who, moment, &call)?)
+        }
+        FrameKind::Fail => {
+            let call = Call::Fail(id_of(body));
+            Ok(answer_call(core, alloc, who, moment, &call)?)
+        }
+        FrameKind::Watch | FrameKind::Poll | FrameKind::Checkpoint | FrameKind::Term => {
+            Err(Unanswered::NotBuilt)
+        }
     }
 }

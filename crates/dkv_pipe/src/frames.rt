@@ -1,20 +1,24 @@
-ghost use Rattle.std.specs.Prelude.{◌≡◌, ◌+◌, ◌≤◌, length, take, drop};
-ghost use Rattle.std.specs.Int.{w32, w64, from_le_bytes};
-ghost use Rattle.dkv_base.specs.Pipe.{id_of, is_frame_kind, is_body_length};
+// A look at the bytes that a source has given: whether a whole frame stands at their front.
+ghost use Rattle.std.specs.Prelude.{◌≡◌, ◌<◌, ◌≤◌, length, MatchOption};
+ghost use Rattle.dkv_pipe.specs.Frames.{caller_at, moment_at, code_at, is_body_length};
 ghost use Rattle.dkv_pipe.specs.Running.{IsLook};
+ghost use Rattle.dkv_pipe.specs.Wishes.{id_of};
 
+use crate::frame_kind::FrameKind;
+use crate::sizes::{BODY_PLACE, HEAD_BYTES, ID_BYTES, LENGTH_BYTES, MAX_LENGTH};
 use dkv_base::MsgId;
+use dkv_base::limits::MAX_REQUEST_BYTES;
 
 /// Who asks, at which moment and for what, and the length of the whole frame.
 #[derive(Clone, Copy, Debug)]
 pub(crate) struct Head {
     pub caller: u32,
     pub moment: u64,
-    pub kind: u8,
+    pub kind: FrameKind,
     pub len: usize,
 }
 
-/// What stands at the front of some bytes: a whole frame, or less than one, or bytes that no frame begins with.
+/// What stands at the front of some bytes: a whole frame, or less than one, or no frame's bytes.
 #[derive(Clone, Copy, Debug)]
 pub(crate) enum Look {
     Whole(Head),
@@ -22,81 +26,78 @@ pub(crate) enum Look {
     Refused,
 }
 
-fn is_kind(kind: u8) -> bool
-    ensures { result ≡ is_frame_kind kind }
-{
-    1 <= kind && kind <= 9
-}
-
-fn is_body(kind: u8, len: usize) -> bool
+fn is_body(kind: FrameKind, len: usize) -> bool
     ensures { result ≡ is_body_length kind len }
 {
-    if kind <= 3 {
-        len <= 2_097_152
-    } else if kind == 6 || kind == 7 {
-        len == 12
-    } else {
-        len == 0
+    match kind {
+        FrameKind::Read | FrameKind::Write | FrameKind::Watch => len <= MAX_REQUEST_BYTES,
+        FrameKind::Acknowledge | FrameKind::Fail => len == ID_BYTES,
+        FrameKind::Poll | FrameKind::Take | FrameKind::Checkpoint | FrameKind::Term => len == 0,
     }
 }
 
-// The number in four bytes from this place on, least first.
-fn number_4(bytes: &[u8], at: usize) -> u32
-    requires { at + 4 ≤ length bytes.now }
-    ensures { result ≡ from_le_bytes w32 (take 4 (drop at bytes.now)) }
+// The caller, the moment and the kind's code of the frame, once its head is there.
+fn head_of(bytes: &[u8]) -> Option<(u32, u64, u8)>
+    ensures { MatchOption result (length bytes.now < BODY_PLACE) (λ head.
+        (head.0 ≡ caller_at bytes.now) × (head.1 ≡ moment_at bytes.now)
+        × (head.2 ≡ code_at bytes.now) × (BODY_PLACE ≤ length bytes.now)) }
 {
-    let (part, _) = bytes[at..].split_at(4);
-    u32::from_le_bytes([part[0], part[1], part[2], part[3]])
+    let (_, rest) = bytes.split_first_chunk::<LENGTH_BYTES>()?;
+    let (caller, rest) = rest.split_first_chunk::<4>()?;
+    let (moment, rest) = rest.split_first_chunk::<8>()?;
+    let code = rest.first()?;
+    Some((
+        u32::from_le_bytes(*caller),
+        u64::from_le_bytes(*moment),
+        *code,
+    ))
 }
 
-// The number in eight bytes from this place on, least first.
-fn number_8(bytes: &[u8], at: usize) -> u64
-    requires { at + 8 ≤ length bytes.now }
-    ensures { result ≡ from_le_bytes w64 (take 8 (drop at bytes.now)) }
-{
-    let (part, _) = bytes[at..].split_at(8);
-    u64::from_le_bytes([
-        part[0], part[1], part[2], part[3], part[4], part[5], part[6], part[7],
-    ])
-}
-
-/// Looks at the first 17 bytes, and at how many there are.
+/// Looks at the length and the head, and at how many bytes there are.
 #[tactic(auto, unfolding(crate::specs::Frames::front))]
 pub(crate) fn look_at(bytes: &[u8]) -> Look
     ensures { IsLook result bytes.now }
 {
-    if bytes.len() < 4 {
+    let Some((length, _)) = bytes.split_first_chunk::<LENGTH_BYTES>() else {
         return Look::Partial;
-    }
-    let len = number_4(bytes, 0) as usize;
-    if len < 13 || 2_097_165 < len {
+    };
+    let len = u32::from_le_bytes(*length) as usize;
+    if len < HEAD_BYTES || MAX_LENGTH < len {
         return Look::Refused;
     }
-    if bytes.len() < 17 {
+    let Some((caller, moment, code)) = head_of(bytes) else {
         return Look::Partial;
-    }
-    let kind = bytes[16];
-    if !is_kind(kind) || !is_body(kind, len - 13) {
+    };
+    let Ok(kind) = FrameKind::try_from(code) else {
+        return Look::Refused;
+    };
+    if !is_body(kind, len - HEAD_BYTES) {
         return Look::Refused;
     }
-    if bytes.len() < 4 + len {
+    if bytes.len() < LENGTH_BYTES + len {
         return Look::Partial;
     }
     Look::Whole(Head {
-        caller: number_4(bytes, 4),
-        moment: number_8(bytes, 8),
+        caller,
+        moment,
         kind,
-        len: 4 + len,
+        len: LENGTH_BYTES + len,
     })
 }
 
 /// The id in the body of a settlement.
 pub(crate) fn id_of(body: &[u8]) -> MsgId
-    requires { length body.now ≡ 12 }
+    requires { length body.now ≡ ID_BYTES }
     ensures { result ≡ id_of body.now }
 {
+    let Some((commit, rest)) = body.split_first_chunk::<8>() else {
+        unreachable!()
+    };
+    let Some((index, _)) = rest.split_first_chunk::<4>() else {
+        unreachable!()
+    };
     MsgId {
-        commit: number_8(body, 0),
-        index: number_4(body, 8),
+        commit: u64::from_le_bytes(*commit),
+        index: u32::from_le_bytes(*index),
     }
 }

@@ -1,3 +1,4 @@
+// What was read and isn't answered yet.
 use dkv_base::NoMemory;
 use std::alloc::Global;
 use std::marker::Model;
@@ -55,7 +56,8 @@ impl Input {
         self.from += n;
     }
 
-    /// Adds these bytes behind the others. The others move to the front first, where bytes before them were passed over.
+    /// Adds these bytes behind the others, which move to the front first where bytes before them were
+    /// passed over.
     pub(crate) fn extend(&mut self, piece: &[u8]) -> Result<(), NoMemory>
         ensures ok { OnOk result (self.new ≡ self.old ++ piece.now) }
         ensures err { OnErr result (self.new ≡ self.old) }
@@ -64,9 +66,7 @@ impl Input {
             drop_front(&mut self.bytes, self.from);
             self.from = 0;
         }
-        match self.bytes.extend_from_slice(piece) {
-            Ok(()) => Ok(()),
-            Err(_) => Err(NoMemory),
-        }
+        self.bytes.extend_from_slice(piece)?;
+        Ok(())
     }
 }

@@ -6,13 +6,14 @@ use Rattle.std.proofs.lemmas.Bool.{and_parts}
 use Rattle.std.proofs.lemmas.List.Elements.{filter_agree}
 use Rattle.dkv_base.specs.declared.types.MsgId.{MsgId}
 use Rattle.dkv_base.specs.State.{id_cmp, same_id}
-use Rattle.dkv_index.specs.Orders.{put_in, left_out, is_rising}
-use Rattle.dkv_index.proofs.Ranks.{greater}
-use Rattle.dkv_index.proofs.Parts.{put_in-above, left_out-above}
+use Rattle.dkv_base.specs.Ordered.{put_in, left_out, is_rising}
+use Rattle.dkv_base.proofs.Ranks.{greater}
+use Rattle.dkv_base.proofs.RankedLists.{put_in-above, left_out-above}
 use Rattle.dkv_queue.specs.declared.row.Row.{Row}
-use Rattle.dkv_queue.specs.Rows.{row_cmp, is_row_of, row_at, taken, settled, failed, after_failure}
+use Rattle.dkv_queue.specs.Rows.{row_cmp, is_row_of, row_at, handed_out, settled, failed, after_failure}
 use Rattle.dkv_queue.specs.Kept.{row_for}
-use Rattle.dkv_queue.proofs.Ids.{row_total, id_ties, same_ids, not_above}
+use Rattle.dkv_base.proofs.NamedMessages.{same_id-true}
+use Rattle.dkv_queue.proofs.Ids.{row_total, id_ties, not_above}
 use Rattle.dkv_queue.proofs.Looks.{row_at-of}
 
 -- what is left where a row is taken out and another is put in, or none is
@@ -28,7 +29,7 @@ revised h id rows = filter_map (λ s. cond (is_row_of id s) (h s) (Some s)) rows
 revised-above : (h : Row → Option Row) (id : MsgId) (r : Row) (rows : List Row) → is_row_of id r ≡ true → list_all (λ s. is_lt (row_cmp r s)) rows ≡ true → revised h id rows ≡ rows
 revised-above h id r [] of above = refl
 revised-above h id r (s ∷ rows) of above =
-    let not_of : is_row_of id s ≡ false = ap (λ x. same_id x s.message.id) (same_ids id r.message.id of) ∙ not_above r s (and_parts _ _ above).0 in
+    let not_of : is_row_of id s ≡ false = ap (λ x. same_id x s.message.id) (same_id-true id r.message.id of) ∙ not_above r s (and_parts _ _ above).0 in
     λ i. cons_option (cond (not_of i) (h s) (Some s)) (revised-above h id r rows of (and_parts _ _ above).1 i)
 
 -- what all rows pass, the row of the id does
@@ -45,7 +46,7 @@ placed-first : (id : MsgId) (s : Row) (rows : List Row) (o : Option Row) → is_
     → placed o rows ≡ cons_option o rows
 placed-first id s rows None of above own = refl
 placed-first id s rows (Some r) of above own =
-    put_in-above row_total r rows (ap (λ x. list_all (λ y. is_lt (id_cmp x y.message.id)) rows) (own r refl ∙ same_ids id s.message.id of) ∙ above)
+    put_in-above row_total r rows (ap (λ x. list_all (λ y. is_lt (id_cmp x y.message.id)) rows) (own r refl ∙ same_id-true id s.message.id of) ∙ above)
 
 -- what is put behind a row stands behind it
 placed-behind : (s : Row) (rows : List Row) (o : Option Row) → ((r : Row) → o ≡ Some r → is_lt (row_cmp s r) ≡ true) → placed o (s ∷ rows) ≡ s ∷ placed o rows
@@ -55,7 +56,7 @@ placed-behind s rows (Some r) above = λ i. match_ordering (greater row_total s 
 pub left_out-first : (id : MsgId) (s : Row) (rows : List Row) → is_row_of id s ≡ true → list_all (λ r. is_lt (row_cmp s r)) rows ≡ true → left_out row_cmp (row_for id) (s ∷ rows) ≡ rows
 left_out-first id s rows of above =
     (λ i. cond (not ((id_ties id s.message.id ∙ of) i)) (s ∷ left_out row_cmp (row_for id) rows) (left_out row_cmp (row_for id) rows))
-    ∙ left_out-above row_total (row_for id) rows (ap (λ x. list_all (λ y. is_lt (id_cmp x y.message.id)) rows) (same_ids id s.message.id of) ∙ above)
+    ∙ left_out-above row_total (row_for id) rows (ap (λ x. list_all (λ y. is_lt (id_cmp x y.message.id)) rows) (same_id-true id s.message.id of) ∙ above)
 
 pub left_out-behind : (id : MsgId) (s : Row) (rows : List Row) → is_row_of id s ≡ false → left_out row_cmp (row_for id) (s ∷ rows) ≡ s ∷ left_out row_cmp (row_for id) rows
 left_out-behind id s rows not_of i = cond (not ((id_ties id s.message.id ∙ not_of) i)) (s ∷ left_out row_cmp (row_for id) rows) (left_out row_cmp (row_for id) rows)
@@ -90,18 +91,18 @@ left_out-settled id rows = filter_agree _ _ (λ r. ap not (id_ties id r.message.
 abbrev pub as_out : Row → Row
 as_out r = record r { out = true }
 
-taken-revised : (id : MsgId) (rows : List Row) → revised (λ r. Some (as_out r)) id rows ≡ taken id rows
-taken-revised id [] = refl
-taken-revised id (r ∷ rows) =
-    elim (is_row_of id r) as (λ b. cons_option (cond b (Some (as_out r)) (Some r)) (revised (λ s. Some (as_out s)) id rows) ≡ (cond b (as_out r) r) ∷ taken id rows) [
-      | true ↦ ap (λ rest. as_out r ∷ rest) (taken-revised id rows)
-      | false ↦ ap (λ rest. r ∷ rest) (taken-revised id rows)
+handed_out-revised : (id : MsgId) (rows : List Row) → revised (λ r. Some (as_out r)) id rows ≡ handed_out id rows
+handed_out-revised id [] = refl
+handed_out-revised id (r ∷ rows) =
+    elim (is_row_of id r) as (λ b. cons_option (cond b (Some (as_out r)) (Some r)) (revised (λ s. Some (as_out s)) id rows) ≡ (cond b (as_out r) r) ∷ handed_out id rows) [
+      | true ↦ ap (λ rest. as_out r ∷ rest) (handed_out-revised id rows)
+      | false ↦ ap (λ rest. r ∷ rest) (handed_out-revised id rows)
     ]
 
 -- the three changes, as they are made
-pub taken-made : (id : MsgId) (rows : List Row) (r : Row) → is_rising row_cmp rows ≡ true → row_at id rows ≡ Some r → put_in row_cmp (as_out r) (left_out row_cmp (row_for id) rows) ≡ taken id rows
-taken-made id rows r rising is =
-    revised-row (λ s. Some (as_out s)) id rows r (Some (as_out r)) rising is refl (λ t same. ap (λ x. x.message.id) (own t same) ∙ row_at-of id rows r is) ∙ taken-revised id rows
+pub handed_out-made : (id : MsgId) (rows : List Row) (r : Row) → is_rising row_cmp rows ≡ true → row_at id rows ≡ Some r → put_in row_cmp (as_out r) (left_out row_cmp (row_for id) rows) ≡ handed_out id rows
+handed_out-made id rows r rising is =
+    revised-row (λ s. Some (as_out s)) id rows r (Some (as_out r)) rising is refl (λ t same. ap (λ x. x.message.id) (own t same) ∙ row_at-of id rows r is) ∙ handed_out-revised id rows
   where
     own : (t : Row) → ◌≡◌ {A = Option Row} (Some (as_out r)) (Some t) → t ≡ as_out r
     own t same = cc same

@@ -6,10 +6,10 @@ use Rattle.std.specs.declared.cmp.Ordering.{Ordering}
 use Rattle.std.specs.declared.cmp.Ordering.TheVariants.{Less, Equal, Greater}
 use Rattle.std.proofs.lemmas.Bool.{and_parts}
 use Rattle.dkv_base.specs.declared.types.MsgId.{MsgId}
-use Rattle.dkv_index.specs.Orders.{put_in, left_out, is_rising}
+use Rattle.dkv_base.specs.Ordered.{put_in, left_out, is_rising}
 use Rattle.dkv_queue.specs.declared.row.Row.{Row}
-use Rattle.dkv_queue.specs.Rows.{row_cmp, is_row_of, row_at}
-use Rattle.dkv_queue.specs.Kept.{row_for, out_rows}
+use Rattle.dkv_queue.specs.Rows.{row_cmp, is_row_of, row_at, out_rows}
+use Rattle.dkv_queue.specs.Kept.{row_for}
 use Rattle.dkv_queue.proofs.Ids.{id_ties}
 use Rattle.dkv_queue.proofs.Changes.{left_out-first, left_out-behind}
 

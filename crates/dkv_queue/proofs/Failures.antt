@@ -6,15 +6,16 @@ use Rattle.dkv_base.specs.declared.types.Message.{Message}
 use Rattle.dkv_base.specs.declared.types.MsgId.{MsgId}
 use Rattle.dkv_base.specs.State.{same_id}
 use Rattle.dkv_base.specs.Messages.{exhausted}
-use Rattle.dkv_index.specs.Orders.{put_in, is_rising}
+use Rattle.dkv_base.specs.Ordered.{put_in, is_rising}
+use Rattle.dkv_base.specs.Sound.{is_schedule}
 use Rattle.dkv_queue.specs.declared.row.Row.{Row}
 use Rattle.dkv_queue.specs.Rows.{row_cmp, row_at, message_at, messages_of, has_schedule, with_failure, after_failure}
-use Rattle.dkv_queue.proofs.Ids.{same_itself}
+use Rattle.dkv_base.proofs.NamedMessages.{same_id_self}
 use Rattle.dkv_queue.proofs.Looks.{exhausted-at, exhausted_row, row_at-put_in}
 
 -- one that may fail once more still has its schedule
 pub schedule-failed : (at : ℕ) (m : Message) → has_schedule m ≡ true → m.fails < length m.backoff → has_schedule (with_failure at m) ≡ true
-schedule-failed at m schedule left = and_from _ _ (and_parts (nat_le 1 (length m.backoff) && nat_le (length m.backoff) 10) _ schedule).0 (le-leb (m.fails + 1) (length m.backoff) (omega arith))
+schedule-failed at m schedule left = and_from _ _ (and_parts (is_schedule m.backoff) _ schedule).0 (le-leb (m.fails + 1) (length m.backoff) (omega arith))
 
 pub fails-again : (at : ℕ) (r : Row) → r.message.fails < length r.message.backoff → after_failure at r ≡ Some (record { message = with_failure at r.message; out = false })
 fails-again at r left =
@@ -36,4 +37,4 @@ now_exhausted id rows r rising is last =
 -- the message that was put in is the message of its id
 pub message_at-put_in : (id : MsgId) (r : Row) (rows : List Row) → r.message.id ≡ id → message_at id (put_in row_cmp r rows) ≡ Some r.message
 message_at-put_in id r rows own =
-    ap (option_map (λ s. s.message)) (row_at-put_in id r rows ∙ (λ i. cond ((ap (λ x. same_id x r.message.id) (sym own) ∙ same_itself r.message.id) i) (Some r) (row_at id rows)))
+    ap (option_map (λ s. s.message)) (row_at-put_in id r rows ∙ (λ i. cond ((ap (λ x. same_id x r.message.id) (sym own) ∙ same_id_self r.message.id) i) (Some r) (row_at id rows)))

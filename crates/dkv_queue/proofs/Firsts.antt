@@ -12,18 +12,18 @@ use Rattle.std.proofs.lemmas.Cmp.{tied_itself, tied_back}
 use Rattle.std.proofs.lemmas.List.Elements.{All-head, All-tail, All-map, All-filter, All-weaker, All-contains_itself}
 use Rattle.dkv_base.specs.declared.types.Message.{Message}
 use Rattle.dkv_base.specs.State.{id_cmp, same_id}
-use Rattle.dkv_base.specs.Trails.{first_due, is_before}
-use Rattle.dkv_index.specs.Orders.{found, is_rising}
-use Rattle.dkv_index.proofs.Ranks.{eq_is, lt_eq}
-use Rattle.dkv_index.proofs.Parts.{all_at}
-use Rattle.dkv_index.proofs.Risings.{all-filter}
+use Rattle.dkv_base.specs.Messages.{first_due, is_before, is_out}
+use Rattle.dkv_base.specs.Ordered.{found, is_rising}
+use Rattle.dkv_base.proofs.Ranks.{eq_is, lt_eq}
+use Rattle.dkv_base.proofs.Lists.{all_at, all-filter}
 use Rattle.dkv_queue.specs.declared.row.Row.{Row}
 use Rattle.dkv_queue.specs.declared.moment.DueAt.{DueAt}
-use Rattle.dkv_queue.specs.Rows.{row_cmp, row_at, message_at, messages_of, is_taken, waiting_of, waits, due_at}
+use Rattle.dkv_queue.specs.Rows.{row_cmp, row_at, message_at, messages_of, out_of, waiting_of, waits, due_at}
 use Rattle.dkv_queue.specs.Answers.{IsDueNow, IsNoneDue}
 use Rattle.dkv_queue.specs.Kept.{due_cmp, is_due_at, IsLinked}
-use Rattle.dkv_queue.proofs.Ids.{due_total, due_ties, same_ids}
-use Rattle.dkv_queue.proofs.Looks.{row_at-itself, any-at, waits-at, some-at, waiting-rows, any-filtered, all-filtered}
+use Rattle.dkv_base.proofs.NamedMessages.{same_id-true}
+use Rattle.dkv_queue.proofs.Ids.{due_total, due_ties}
+use Rattle.dkv_queue.proofs.Looks.{row_at-itself, any-at, waits-at, some-at, waiting-messages, any-filtered, all-filtered}
 use Rattle.dkv_queue.proofs.Keeps.{due_of}
 
 -- what holds of all holds of the first that is due
@@ -99,7 +99,7 @@ first_due-least d (m ∷ ms) any all = by (list_any (λ k. is_eq (due_cmp d (due
 -- a row of the very moment and id waits, or none does
 any-waiting : (d : DueAt) (rows : List Row) → is_rising row_cmp rows ≡ true → list_any (λ m. is_eq (due_cmp d (due_of m))) (waiting_of rows) ≡ is_due_at d.due (row_at d.id rows)
 any-waiting d rows rising =
-    ap (list_any (λ m. is_eq (due_cmp d (due_of m)))) (waiting-rows rows rising)
+    ap (list_any (λ m. is_eq (due_cmp d (due_of m)))) (waiting-messages rows rising)
     ∙ any-filtered (λ r. not r.out) (λ r. r.message) (λ m. is_eq (due_cmp d (due_of m))) rows
     ∙ any_agree _ _ (λ r. ap (λ b. not r.out && b) (due_ties d (due_of r.message)) ∙ around (not r.out) (d.due == r.message.due) (same_id d.id r.message.id)) rows
     ∙ any-at (λ r. not r.out && (d.due == r.message.due)) d.id rows rising
@@ -147,13 +147,13 @@ waits-listed rows dues r rising linked is waits =
 all-waiting : (rows : List Row) (e : DueAt) (dues : List DueAt) → is_rising row_cmp rows ≡ true → is_rising due_cmp (e ∷ dues) ≡ true → IsLinked rows (e ∷ dues)
     → list_all (λ m. is_le (due_cmp e (due_of m))) (waiting_of rows) ≡ true
 all-waiting rows e dues rising order linked =
-    ap (list_all (λ m. is_le (due_cmp e (due_of m)))) (waiting-rows rows rising)
+    ap (list_all (λ m. is_le (due_cmp e (due_of m)))) (waiting-messages rows rising)
     ∙ all-filtered (λ r. not r.out) (λ r. r.message) (λ m. is_le (due_cmp e (due_of m))) rows
     (λ r is waits. rising-first (due_of r.message) e dues order (waits-listed rows (e ∷ dues) r rising linked is waits))
 
 -- where there are no due ones, none waits
 none-waiting : (rows : List Row) → is_rising row_cmp rows ≡ true → IsLinked rows [] → waiting_of rows ≡ []
-none-waiting rows rising linked = waiting-rows rows rising ∙ empty _ (all-filtered (λ r. not r.out) (λ r. r.message) (λ m. false) rows (λ r is waits. waits-listed rows [] r rising linked is waits))
+none-waiting rows rising linked = waiting-messages rows rising ∙ empty _ (all-filtered (λ r. not r.out) (λ r. r.message) (λ m. false) rows (λ r is waits. waits-listed rows [] r rising linked is waits))
   where
     empty : (ms : List Message) → list_all (λ m. false) ms ≡ true → ms ≡ []
     empty [] h = refl
@@ -179,7 +179,7 @@ pub due-found : (at : ℕ) (rows : List Row) (m : Message) → is_rising row_cmp
 due-found at rows m rising first =
     first_due-holds (λ k. message_at k.id rows ≡ Some k) (filter (λ k. nat_le k.due at) (waiting_of rows)) m
     (All-filter (λ k. nat_le k.due at) (λ k. message_at k.id rows ≡ Some k) (waiting_of rows)
-    (All-filter (λ k. not (is_taken k.id rows)) (λ k. message_at k.id rows ≡ Some k) (messages_of rows)
+    (All-filter (λ k. not (is_out k.id (out_of rows))) (λ k. message_at k.id rows ≡ Some k) (messages_of rows)
     (All-map (λ k. message_at k.id rows ≡ Some k) (λ r. r.message) rows
     (All-weaker (Contains rows) (λ r. message_at r.message.id rows ≡ Some r.message) (λ r is. ap (option_map (λ s. s.message)) (row_at-itself r rows rising is)) rows (All-contains_itself rows)))))
     first
@@ -189,9 +189,9 @@ pub now-due : (at : ℕ) (rows : List Row) (e : DueAt) (dues : List DueAt) → i
     → e.due ≤ at → IsDueNow at rows e.id
 now-due at rows e dues rising order linked early =
     let first = first_due-least e (filter (λ m. nat_le m.due at) (waiting_of rows)) (among (waiting_of rows) (some-waits rows e dues rising linked))
-    (all-filter (λ m. nat_le m.due at) (λ m. is_le (due_cmp e (due_of m))) (waiting_of rows) (all-waiting rows e dues rising order linked)) in
+    (all-filter (λ m. is_le (due_cmp e (due_of m))) (λ m. nat_le m.due at) (waiting_of rows) (all-waiting rows e dues rising order linked)) in
     let row = some-at _ _ (sym (linked e) ∙ listed e dues) in
-    let own : e.id ≡ first.0.id = same_ids e.id first.0.id (and_parts (e.due == first.0.due) (same_id e.id first.0.id) (sym (due_ties e (due_of first.0)) ∙ first.2)).1 in
+    let own : e.id ≡ first.0.id = same_id-true e.id first.0.id (and_parts (e.due == first.0.due) (same_id e.id first.0.id) (sym (due_ties e (due_of first.0)) ∙ first.2)).1 in
     record {
       message = first.0;
       first = first.1;

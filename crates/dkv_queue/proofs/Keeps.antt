@@ -6,14 +6,15 @@ use Rattle.dkv_base.specs.declared.types.Message.{Message}
 use Rattle.dkv_base.specs.declared.types.MsgId.{MsgId}
 use Rattle.dkv_base.specs.State.{same_id}
 use Rattle.dkv_index.specs.Contents.{Contents}
-use Rattle.dkv_index.specs.Orders.{found, put_in, left_out}
-use Rattle.dkv_index.proofs.Lookups.{found-put_in, found-left_out}
-use Rattle.dkv_index.proofs.Risings.{all-put_in, all-left_out, rising-put_in, rising-left_out}
+use Rattle.dkv_base.specs.Ordered.{found, put_in, left_out}
+use Rattle.dkv_base.proofs.Lookups.{found-put_in, found-left_out}
+use Rattle.dkv_base.proofs.Risings.{all-put_in, all-left_out, rising-put_in, rising-left_out}
 use Rattle.dkv_queue.specs.declared.row.Row.{Row}
 use Rattle.dkv_queue.specs.declared.moment.DueAt.{DueAt}
-use Rattle.dkv_queue.specs.Rows.{row_cmp, row_at, has_schedule}
-use Rattle.dkv_queue.specs.Kept.{row_for, due_cmp, is_due_at, out_rows, IsLinked, IsKept}
-use Rattle.dkv_queue.proofs.Ids.{row_total, due_total, due_ties, same_ids, same_itself}
+use Rattle.dkv_queue.specs.Rows.{row_cmp, row_at, out_rows, has_schedule}
+use Rattle.dkv_queue.specs.Kept.{row_for, due_cmp, is_due_at, IsLinked, IsKept}
+use Rattle.dkv_base.proofs.NamedMessages.{same_id-true, same_id_self}
+use Rattle.dkv_queue.proofs.Ids.{row_total, due_total, due_ties}
 use Rattle.dkv_queue.proofs.Looks.{row_at-put_in, row_at-left_out, row_at-of}
 use Rattle.dkv_queue.proofs.Changes.{all_row_at}
 use Rattle.dkv_queue.proofs.Counts.{count-put_in, count-left_out}
@@ -32,10 +33,10 @@ some_left false o = refl
 
 -- a look-up at an id of which there is no row
 absent_at : (id other : MsgId) (rows : List Row) → row_at other rows ≡ None → same_id id other ≡ true → row_at id rows ≡ None
-absent_at id other rows none same = ap (λ x. row_at x rows) (same_ids id other same) ∙ none
+absent_at id other rows none same = ap (λ x. row_at x rows) (same_id-true id other same) ∙ none
 
 present_at : (id other : MsgId) (rows : List Row) (r : Row) → row_at other rows ≡ Some r → same_id id other ≡ true → row_at id rows ≡ Some r
-present_at id other rows r is same = ap (λ x. row_at x rows) (same_ids id other same) ∙ is
+present_at id other rows r is same = ap (λ x. row_at x rows) (same_id-true id other same) ∙ is
 
 -- a row that isn't out comes, and its moment with it
 linked-in : (rows : List Row) (dues : List DueAt) (m : Message) → IsLinked rows dues → row_at m.id rows ≡ None
@@ -122,7 +123,7 @@ kept-in rows later due then count room left m kept schedule absent dues due_room
       rising = rw items (rising-put_in row_total r rows.items kept.rising);
       schedules = rw items (all-put_in row_cmp (λ s. has_schedule s.message) r rows.items schedule kept.schedules);
       linked = rw (items, dues) (linked-in rows.items due.items m kept.linked absent);
-      taken = rw items (kept.taken ∙ sym (count-put_in r rows.items absent));
+      outs = rw items (kept.outs ∙ sym (count-put_in r rows.items absent));
       rows_room = omega (arith, kept.rows_room);
       due_room = omega (arith, kept.due_room);
     }
@@ -136,9 +137,9 @@ kept-in_out rows later due count room left r kept schedule absent out items rows
   rising = rw items (rising-put_in row_total r rows.items kept.rising);
   schedules = rw items (all-put_in row_cmp (λ s. has_schedule s.message) r rows.items schedule kept.schedules);
   linked = rw items (linked-in_out rows.items due.items r kept.linked absent out);
-  taken =
+  outs =
       let counted = count-put_in r rows.items absent ∙ count_of true r rows.items out in
-      rw items (omega (arith, kept.taken, counted));
+      rw items (omega (arith, kept.outs, counted));
   rows_room = omega (arith, kept.rows_room);
   due_room = omega (arith, kept.due_room);
 }
@@ -152,9 +153,9 @@ kept-gone rows later due count less room id r kept is out items rows_room one = 
   rising = rw items (rising-left_out row_cmp (row_for id) rows.items kept.rising);
   schedules = rw items (all-left_out row_cmp (λ s. has_schedule s.message) (row_for id) rows.items kept.schedules);
   linked = rw items (linked-gone rows.items due.items id r kept.linked is out);
-  taken =
+  outs =
       let counted = count-left_out id rows.items r kept.rising is ∙ count_of true r (left_out row_cmp (row_for id) rows.items) out in
-      rw items (omega (arith, kept.taken, counted));
+      rw items (omega (arith, kept.outs, counted));
   rows_room = omega (arith, kept.rows_room);
   due_room = omega (arith, kept.due_room);
 }
@@ -169,9 +170,9 @@ kept-out rows later due then count room id r kept is waits items rows_room dues 
   rising = rw items (rising-left_out row_cmp (row_for id) rows.items kept.rising);
   schedules = rw items (all-left_out row_cmp (λ s. has_schedule s.message) (row_for id) rows.items kept.schedules);
   linked = rw (items, dues) (linked-out rows.items due.items id r kept.linked is);
-  taken =
+  outs =
       let counted = count-left_out id rows.items r kept.rising is ∙ count_of false r (left_out row_cmp (row_for id) rows.items) waits in
-      rw items (omega (arith, kept.taken, counted));
+      rw items (omega (arith, kept.outs, counted));
   rows_room = omega (arith, kept.rows_room);
   due_room = omega (arith, kept.due_room);
 }
@@ -182,20 +183,20 @@ kept-less rows due count room less le kept = record {
   rising = kept.rising;
   schedules = kept.schedules;
   linked = kept.linked;
-  taken = kept.taken;
+  outs = kept.outs;
   rows_room = omega (arith, kept.rows_room);
   due_room = omega (arith, kept.due_room);
 }
 
 -- what is taken out is there no more
 pub absent-left : (id : MsgId) (rows : List Row) → row_at id (left_out row_cmp (row_for id) rows) ≡ None
-absent-left id rows = row_at-left_out id id rows ∙ ap (λ b. cond b None (row_at id rows)) (same_itself id)
+absent-left id rows = row_at-left_out id id rows ∙ ap (λ b. cond b None (row_at id rows)) (same_id_self id)
 
 -- where a row is out, some are
 pub kept-some : (rows : Contents Row) (due : Contents DueAt) (count room : ℕ) (id : MsgId) (r : Row) → IsKept rows due count room → row_at id rows.items ≡ Some r → r.out ≡ true → 1 ≤ count
 kept-some rows due count room id r kept is out =
     let counted = count-left_out id rows.items r kept.rising is ∙ count_of true r (left_out row_cmp (row_for id) rows.items) out in
-    omega (arith, kept.taken, counted)
+    omega (arith, kept.outs, counted)
 
 -- each row has a schedule
 pub kept-schedule : (rows : Contents Row) (due : Contents DueAt) (count room : ℕ) (id : MsgId) (r : Row) → IsKept rows due count room → row_at id rows.items ≡ Some r → has_schedule r.message ≡ true
@@ -206,13 +207,13 @@ pub absent-after : (id other : MsgId) (rows left : List Row) → left ≡ left_o
 absent-after id other rows left is same = (λ i. row_at (same i) (is i)) ∙ absent-left id rows
 
 -- a row that isn't out is taken out with its moment, and put in as one that is
-pub kept-taken : (rows less later : Contents Row) (due then : Contents DueAt) (count room : ℕ) (id : MsgId) (r : Row) → IsKept rows due count room
+pub kept-handed_out : (rows less later : Contents Row) (due then : Contents DueAt) (count room : ℕ) (id : MsgId) (r : Row) → IsKept rows due count room
     → row_at id rows.items ≡ Some r → r.out ≡ false
     → less.items ≡ left_out row_cmp (row_for id) rows.items → rows.spare + 1 ≤ less.spare
     → then.items ≡ left_out due_cmp (record { due = r.message.due; id = id }) due.items → due.spare + 1 ≤ then.spare
     → later.items ≡ put_in row_cmp (record { message = r.message; out = true }) less.items → less.spare ≤ later.spare + 1
     → IsKept later then (count + 1) room
-kept-taken rows less later due then count room id r kept is waits gone less_room dues due_room items later_room =
+kept-handed_out rows less later due then count room id r kept is waits gone less_room dues due_room items later_room =
     kept-in_out less later then count (room + 1) room (record { message = r.message; out = true })
     (kept-out rows less due then count room id r kept is waits gone less_room dues due_room)
     (kept-schedule rows due count room id r kept is) (absent-after id r.message.id rows.items less.items gone (row_at-of id rows.items r is)) refl

@@ -1,3 +1,4 @@
+pub mod Laws
 pub mod Ids
 pub mod Looks
 pub mod Changes
@@ -5,4 +6,3 @@ mod Counts
 mod Keeps
 mod Firsts
 mod Failures
-mod Copies

@@ -8,13 +8,15 @@ use Rattle.std.proofs.lemmas.Bool.{and_parts, and_from, or_from, or_parts, not-t
 use Rattle.dkv_base.specs.declared.types.Message.{Message}
 use Rattle.dkv_base.specs.declared.types.MsgId.{MsgId}
 use Rattle.dkv_base.specs.State.{id_cmp, same_id, is_in_id_order}
-use Rattle.dkv_base.specs.Messages.{exhausted}
-use Rattle.dkv_index.specs.Orders.{found, put_in, left_out, is_rising}
-use Rattle.dkv_index.proofs.Lookups.{found-put_in, found-left_out, found-itself}
+use Rattle.dkv_base.specs.Messages.{exhausted, is_out}
+use Rattle.dkv_base.specs.Ordered.{found, put_in, left_out, is_rising}
+use Rattle.dkv_base.proofs.Lookups.{found-put_in, found-left_out, found-itself}
 use Rattle.dkv_queue.specs.declared.row.Row.{Row}
-use Rattle.dkv_queue.specs.Rows.{row_cmp, is_row_of, row_at, messages_of, is_taken, waits, waiting_of, next_row}
+use Rattle.dkv_queue.specs.Rows.{row_cmp, is_row_of, row_at, messages_of, is_row_out, waits, out_of, waiting_of, next_row}
 use Rattle.dkv_queue.specs.Kept.{row_for}
-use Rattle.dkv_queue.proofs.Ids.{row_total, id_ties, same_ids, not_above}
+use Rattle.dkv_queue.proofs.Laws.{out-rows}
+use Rattle.dkv_base.proofs.NamedMessages.{same_id-true}
+use Rattle.dkv_queue.proofs.Ids.{row_total, id_ties, not_above}
 
 find_agree : {X : Type 0} (p q : X → Bool) → ((x : X) → p x ≡ q x) → (xs : List X) → find p xs ≡ find q xs
 find_agree p q same [] = refl
@@ -44,7 +46,7 @@ row_at-of id [] r is = absurd (cc is)
 row_at-of id (s ∷ rows) r is = by (is_row_of id s) refl is (row_at-of id rows r)
   where
     by : (b : Bool) → is_row_of id s ≡ b → cond b (Some s) (row_at id rows) ≡ Some r → (row_at id rows ≡ Some r → r.message.id ≡ id) → r.message.id ≡ id
-    by true of is rest = let same : r ≡ s = cc is in ap (λ x. x.message.id) same ∙ sym (same_ids id s.message.id of)
+    by true of is rest = let same : r ≡ s = cc is in ap (λ x. x.message.id) same ∙ sym (same_id-true id s.message.id of)
     by false of is rest = rest is
 
 -- no row above another is of its id
@@ -52,7 +54,7 @@ none_above : (t : Row → Bool) (id : MsgId) (r : Row) (rows : List Row) → is_
     → list_any (λ s. is_row_of id s && t s) rows ≡ false
 none_above t id r [] of above = refl
 none_above t id r (s ∷ rows) of above =
-    let not_of : is_row_of id s ≡ false = ap (λ x. same_id x s.message.id) (same_ids id r.message.id of) ∙ not_above r s (and_parts _ _ above).0 in
+    let not_of : is_row_of id s ≡ false = ap (λ x. same_id x s.message.id) (same_id-true id r.message.id of) ∙ not_above r s (and_parts _ _ above).0 in
     or_from _ _ (λ i. not_of i && t s) (none_above t id r rows of (and_parts _ _ above).1)
 
 or_none : (b c : Bool) → c ≡ false → (b || c) ≡ b
@@ -68,8 +70,8 @@ any-at t id (r ∷ rows) rising =
       | false ↦ λ of. any-at t id rows (and_parts _ _ rising).1
     ] refl
 
-pub taken-at : (id : MsgId) (rows : List Row) → is_rising row_cmp rows ≡ true → is_taken id rows ≡ option_map_or (λ r. r.out) (row_at id rows) false
-taken-at id rows rising = any-at (λ r. r.out) id rows rising
+pub out-at : (id : MsgId) (rows : List Row) → is_rising row_cmp rows ≡ true → is_row_out id rows ≡ option_map_or (λ r. r.out) (row_at id rows) false
+out-at id rows rising = any-at (λ r. r.out) id rows rising
 
 pub waits-at : (id : MsgId) (rows : List Row) → is_rising row_cmp rows ≡ true → waits id rows ≡ option_map_or (λ r. not r.out) (row_at id rows) false
 waits-at id rows rising = any-at (λ r. not r.out) id rows rising
@@ -119,10 +121,10 @@ filter-each p q [] same = refl
 filter-each p q (x ∷ xs) same = λ i. cond (same x (ahead x xs) i) (x ∷ filter-each p q xs (λ y is. same y (behind x y xs is)) i) (filter-each p q xs (λ y is. same y (behind x y xs is)) i)
 
 -- the messages that aren't out are those of the rows that aren't
-pub waiting-rows : (rows : List Row) → is_rising row_cmp rows ≡ true → waiting_of rows ≡ messages_of (filter (λ r. not r.out) rows)
-waiting-rows rows rising =
-    filter-map (λ m. not (is_taken m.id rows)) (λ r. r.message) rows
-    ∙ ap messages_of (filter-each _ _ rows (λ r is. ap not (taken-at r.message.id rows rising ∙ ap (λ o. option_map_or (λ s. s.out) o false) (row_at-itself r rows rising is))))
+pub waiting-messages : (rows : List Row) → is_rising row_cmp rows ≡ true → waiting_of rows ≡ messages_of (filter (λ r. not r.out) rows)
+waiting-messages rows rising =
+    filter-map (λ m. not (is_out m.id (out_of rows))) (λ r. r.message) rows
+    ∙ ap messages_of (filter-each _ _ rows (λ r is. ap not (out-rows r.message.id rows ∙ out-at r.message.id rows rising ∙ ap (λ o. option_map_or (λ s. s.out) o false) (row_at-itself r rows rising is))))
 
 -- a test of all or of some of what a filter leaves
 pub any-filtered : {X Y : Type 0} (q : X → Bool) (f : X → Y) (t : Y → Bool) (xs : List X) → list_any t (map f (filter q xs)) ≡ list_any (λ x. q x && t (f x)) xs
@@ -158,14 +160,14 @@ first-row [] = refl
 first-row (r ∷ rows) = refl
 
 -- whether the message is out, by what a search by rank finds
-pub taken-found : (id : MsgId) (rows : List Row) (o : Option Row) → is_rising row_cmp rows ≡ true → found row_cmp (row_for id) rows ≡ o → is_taken id rows ≡ option_map_or (λ r. r.out) o false
-taken-found id rows o rising is = taken-at id rows rising ∙ ap (λ x. option_map_or (λ r. r.out) x false) (sym (found-row_at id rows) ∙ is)
+pub out-found : (id : MsgId) (rows : List Row) (o : Option Row) → is_rising row_cmp rows ≡ true → found row_cmp (row_for id) rows ≡ o → is_row_out id rows ≡ option_map_or (λ r. r.out) o false
+out-found id rows o rising is = out-at id rows rising ∙ ap (λ x. option_map_or (λ r. r.out) x false) (sym (found-row_at id rows) ∙ is)
 
 -- where the message is out, the search finds its row, which is out
-pub taken-row : (id : MsgId) (rows : List Row) (o : Option Row) → is_rising row_cmp rows ≡ true → o ≡ found row_cmp (row_for id) rows → is_taken id rows ≡ true
+pub out-row : (id : MsgId) (rows : List Row) (o : Option Row) → is_rising row_cmp rows ≡ true → o ≡ found row_cmp (row_for id) rows → is_row_out id rows ≡ true
     → (r : Row) × (o ≡ Some r) × (row_at id rows ≡ Some r) × (r.out ≡ true)
-taken-row id rows o rising is taken =
-    let some = some-at (λ r. r.out) (row_at id rows) (sym (taken-at id rows rising) ∙ taken) in
+out-row id rows o rising is out =
+    let some = some-at (λ r. r.out) (row_at id rows) (sym (out-at id rows rising) ∙ out) in
     (some.0, is ∙ found-row_at id rows ∙ some.1, some.1, some.2)
 
 -- where it waits, the row isn't out
@@ -188,8 +190,8 @@ if-there (Some y) P is h = h
 pub known-at : (id : MsgId) (rows : List Row) (r : Row) → Some r ≡ found row_cmp (row_for id) rows → row_at id rows ≡ Some r
 known-at id rows r is = sym (found-row_at id rows) ∙ sym is
 
-pub known-out : (id : MsgId) (rows : List Row) (r : Row) → is_rising row_cmp rows ≡ true → row_at id rows ≡ Some r → is_taken id rows ≡ true → r.out ≡ true
-known-out id rows r rising is taken = sym (taken-at id rows rising ∙ ap (λ o. option_map_or (λ s. s.out) o false) is) ∙ taken
+pub known-out : (id : MsgId) (rows : List Row) (r : Row) → is_rising row_cmp rows ≡ true → row_at id rows ≡ Some r → is_row_out id rows ≡ true → r.out ≡ true
+known-out id rows r rising is out = sym (out-at id rows rising ∙ ap (λ o. option_map_or (λ s. s.out) o false) is) ∙ out
 
 pub known-waits : (id : MsgId) (rows : List Row) (r : Row) → is_rising row_cmp rows ≡ true → row_at id rows ≡ Some r → waits id rows ≡ true → r.out ≡ false
 known-waits id rows r rising is waiting = not-true r.out (sym (waits-at id rows rising ∙ ap (λ o. option_map_or (λ s. not s.out) o false) is) ∙ waiting)

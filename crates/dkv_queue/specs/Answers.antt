@@ -5,12 +5,13 @@ use Rattle.std.specs.Prelude.{ℕ, ◌≡◌, IsTrue, List, Option, Some, None, 
 use Rattle.dkv_base.specs.declared.types.Message.{Message}
 use Rattle.dkv_base.specs.declared.types.MsgId.{MsgId}
 use Rattle.dkv_base.specs.Messages.{exhausted}
+use Rattle.dkv_base.specs.Steps.{next_moment}
 use Rattle.dkv_queue.specs.declared.row.Row.{Row}
 use Rattle.dkv_queue.specs.declared.answers.Due.{Due}
 use Rattle.dkv_queue.specs.declared.answers.Due.TheVariants as due
 use Rattle.dkv_queue.specs.declared.answers.Retry.{Retry}
 use Rattle.dkv_queue.specs.declared.answers.Retry.TheVariants as retry
-use Rattle.dkv_queue.specs.Rows.{messages_of, message_at, waits, due_at, next_moment}
+use Rattle.dkv_queue.specs.Rows.{messages_of, message_at, waits, situation_of, due_at}
 
 -- the message is the first of those that are due and not out
 pub record IsDueNow (at : ℕ) (rows : List Row) (id : MsgId) : Type 0 where
@@ -23,7 +24,7 @@ pub record IsDueNow (at : ℕ) (rows : List Row) (id : MsgId) : Type 0 where
 -- none is due; the first of those that wait will be at this moment
 pub record IsNoneDue (at : ℕ) (rows : List Row) (moment : Option ℕ) : Type 0 where
   pub none : due_at at rows ≡ None
-  pub next : moment ≡ next_moment rows
+  pub next : moment ≡ next_moment (situation_of rows)
 
 abbrev pub IsDue : ℕ → List Row → Due → Type 0
 IsDue at rows (due.Now id) = IsDueNow at rows id

@@ -1,3 +1,4 @@
+// What a queue answers.
 use dkv_base::{Message, MsgId};
 
 /// Which message is due first.

@@ -1,12 +1,13 @@
+// What a failure does to a message.
 ghost use Rattle.std.specs.Prelude.{◌≡◌, ◌<◌, ◌≤◌, IsTrue, IfOk, IfErr, length};
-ghost use Rattle.dkv_base.specs.State.{max_moment};
+ghost use Rattle.dkv_base.specs.declared.moments.TheConstants.{MAX_MOMENT};
 ghost use Rattle.dkv_queue.specs.Rows.{has_schedule, with_failure};
 
 use dkv_base::Message;
 
 // The message with one more failure at this moment, or as it was where its schedule has no interval left.
 pub(crate) fn fail(mut message: Message, at: u64) -> Result<Message, Message>
-    requires moment { at ≤ max_moment }
+    requires moment { at ≤ MAX_MOMENT }
     requires schedule { IsTrue (has_schedule message) }
     ensures again { IfOk result (λ m. m ≡ with_failure at message) }
     ensures left { IfOk result (λ _. message.fails < length message.backoff) }

@@ -1,4 +1,5 @@
-use dkv_base::MsgId;
+// The moment at which a message is due, as it is kept in order.
+use dkv_base::{MsgId, NoMemory, TryCopy};
 use dkv_index::{Probe, Ranked};
 use std::alloc::Global;
 use std::cmp::Ordering;
@@ -8,6 +9,12 @@ use std::cmp::Ordering;
 pub(crate) struct DueAt {
     pub(crate) due: u64,
     pub(crate) id: MsgId,
+}
+
+impl TryCopy for DueAt {
+    fn copy(&self, _alloc: Global) -> Result<DueAt, NoMemory> {
+        Ok(*self)
+    }
 }
 
 impl Ranked for DueAt {

@@ -1,16 +1,16 @@
+// The queue: its rows by id, and the moments of those that wait, in two indexes.
 ghost use Rattle.std.specs.Prelude.{◌≡◌, ◌+◌, ◌<◌, ◌≤◌, [], length, IsTrue, IfOk, OnOk, OnErr, None, option_map};
 ghost use Rattle.std.specs.Option.{option_copied};
 ghost use Rattle.std.specs.List.{list_all};
-ghost use Rattle.dkv_base.specs.State.{is_in_id_order, taken_moment};
-ghost use Rattle.dkv_index.specs.Orders.{put_in};
-ghost use Rattle.dkv_queue.specs.Rows.{row_cmp, messages_of, message_at, row_at, is_taken, waits, next_row};
-ghost use Rattle.dkv_queue.specs.Rows.{added, taken, settled, failed, has_schedule};
+ghost use Rattle.dkv_base.specs.State.{is_in_id_order};
+ghost use Rattle.dkv_base.specs.Moments.{capped_moment};
+ghost use Rattle.dkv_queue.specs.Rows.{messages_of, message_at, row_at, is_row_out, waits, next_row, added, handed_out, settled, failed, has_schedule};
 ghost use Rattle.dkv_queue.specs.Answers.{IsDue, IsRetry};
 
 use crate::failing::fail;
 use crate::moment::DueAt;
 use crate::{Due, Retry, Row};
-use dkv_base::{MAX_MOMENT, Message, MsgId, NoMemory, TryCopy};
+use dkv_base::{MAX_MOMENT, Message, MsgId, NoMemory};
 use dkv_index::Index;
 use std::alloc::Global;
 use std::marker::Model;
@@ -23,7 +23,7 @@ pub struct Queue {
     // Of the rows that aren't out.
     due: Index<DueAt>,
     // How many rows are out. Each finds room in `due` again.
-    taken: usize,
+    outs: usize,
     // How many more messages find room in both.
     room: usize,
 }
@@ -36,7 +36,7 @@ impl Model for Queue {
 
     ghost view = { λ q. record { rows = q.rows.items; spare = q.room } };
 
-    ghost invariant = { λ q. IsKept q.rows q.due q.taken q.room };
+    ghost invariant = { λ q. IsKept q.rows q.due q.outs q.room };
 }
 
 impl Queue {
@@ -48,7 +48,7 @@ impl Queue {
         Queue {
             rows: Index::new(alloc),
             due: Index::new(alloc),
-            taken: 0,
+            outs: 0,
             room: 0,
         }
     }
@@ -63,15 +63,11 @@ impl Queue {
         if n <= self.room {
             return Ok(());
         }
-        match n.checked_add(self.taken) {
-            Some(due) => {
-                self.rows.reserve(n)?;
-                self.due.reserve(due)?;
-                self.room = n;
-                Ok(())
-            }
-            None => Err(NoMemory),
-        }
+        let due = n.checked_add(self.outs).ok_or(NoMemory)?;
+        self.rows.reserve(n)?;
+        self.due.reserve(due)?;
+        self.room = n;
+        Ok(())
     }
 
     /// Adds a message, which waits. Takes no memory.
@@ -114,7 +110,7 @@ impl Queue {
     /// Marks the message as out. Takes no memory.
     pub fn take(&mut self, id: MsgId)
         requires { IsTrue (waits id self.old.rows) }
-        ensures rows { self.new.rows ≡ taken id self.old.rows }
+        ensures rows { self.new.rows ≡ handed_out id self.old.rows }
         ensures kept { self.old.spare ≤ self.new.spare }
     {
         match self.rows.take(&id) {
@@ -128,8 +124,8 @@ impl Queue {
                     out: true,
                 });
                 let held = self.rows.len();
-                prove!(self.taken < held);
-                self.taken += 1;
+                prove!(self.outs < held);
+                self.outs += 1;
             }
             None => unreachable!(),
         }
@@ -137,25 +133,25 @@ impl Queue {
 
     /// Takes away a message that was handled. Takes no memory.
     pub fn settle(&mut self, id: MsgId)
-        requires { IsTrue (is_taken id self.old.rows) }
+        requires { IsTrue (is_row_out id self.old.rows) }
         ensures rows { self.new.rows ≡ settled id self.old.rows }
         ensures kept { self.old.spare ≤ self.new.spare }
     {
         let _ = self.rows.take(&id);
-        self.taken -= 1;
+        self.outs -= 1;
     }
 
     /// Puts back a message that failed at `at`, in milliseconds since 1970, or takes it away after its last failure. Takes
     /// no memory.
     pub fn retry(&mut self, id: MsgId, at: u64) -> Retry
-        requires { IsTrue (is_taken id self.old.rows) }
-        ensures rows { self.new.rows ≡ failed id (taken_moment at) self.old.rows }
+        requires { IsTrue (is_row_out id self.old.rows) }
+        ensures rows { self.new.rows ≡ failed id (capped_moment at) self.old.rows }
         ensures kept { self.old.spare ≤ self.new.spare }
         ensures answer { IsRetry id self.old.rows self.new.rows result }
     {
         match self.rows.take(&id) {
             Some(row) => {
-                self.taken -= 1;
+                self.outs -= 1;
                 match fail(row.message, at.min(MAX_MOMENT)) {
                     Ok(message) => {
                         let due = message.due;
@@ -187,7 +183,7 @@ impl Queue {
 
     /// Whether the message of the id is out. Takes no memory.
     pub fn is_out(&self, id: MsgId) -> bool
-        ensures { result ≡ is_taken id self.now.rows }
+        ensures { result ≡ is_row_out id self.now.rows }
     {
         match self.rows.get(&id) {
             Some(row) => row.out,
@@ -217,32 +213,14 @@ impl Queue {
     pub fn copy(&self, alloc: Global) -> Result<Queue, NoMemory>
         ensures { IfOk result (λ q. q.rows ≡ self.now.rows) }
     {
-        let mut queue = Queue::new(alloc);
-        queue.reserve(self.rows.len())?;
-        let mut next = self.rows.first();
-        while let Some(row) = next {
-            queue.put_back(row.copy(alloc)?);
-            next = self.rows.above(&row.message.id);
-        }
-        Ok(queue)
-    }
-
-    // Puts a row in, out or not. Takes no memory.
-    fn put_back(&mut self, row: Row)
-        requires room { 1 ≤ self.old.spare }
-        requires absent { row_at row.message.id self.old.rows ≡ None }
-        requires schedule { IsTrue (has_schedule row.message) }
-        ensures rows { self.new.rows ≡ put_in row_cmp row self.old.rows }
-        ensures kept { self.old.spare ≤ self.new.spare + 1 }
-    {
-        if row.out {
-            let _ = self.rows.put(row);
-            let held = self.rows.len();
-            prove!(self.taken < held);
-            self.taken += 1;
-            self.room -= 1;
-        } else {
-            self.add(row.message);
-        }
+        let rows = self.rows.copy(alloc)?;
+        let mut due = self.due.copy(alloc)?;
+        due.reserve(self.outs)?;
+        Ok(Queue {
+            rows,
+            due,
+            outs: self.outs,
+            room: 0,
+        })
     }
 }

@@ -1,3 +1,4 @@
+// A message in the queue, as it is kept in the order of ids.
 use dkv_base::{Bytes, Message, MsgId, NoMemory, Run, TryCopy};
 use dkv_index::{Probe, Ranked};
 use std::alloc::Global;

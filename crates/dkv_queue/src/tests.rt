@@ -1,186 +1,170 @@
+// Messages come, go out, come again and go, by tables of calls.
 use super::*;
-use dkv_base::{Bytes, MAX_MOMENT, Message, MsgId, Run};
+use dkv_base::limits::MAX_INTERVAL_MS;
+use dkv_base::{Bytes, MAX_MOMENT, Message, MsgId, NoMemory, Run};
 use std::alloc::Global;
 use std::process::Abort;
 use std::test::Fail;
 
-fn id(commit: u64, index: u32) -> MsgId {
-    MsgId { commit, index }
-}
+// A message with two intervals: its id's commit and index, when it is due, and the intervals.
+type Waiting = (u64, u32, u64, u32, u32);
 
-fn add(
-    rt: &impl Abort,
-    alloc: Global,
-    queue: &mut Queue,
-    id: MsgId,
-    due: u64,
-    backoff: &[u32],
-) -> Result<(), Fail> {
-    assert!(rt; !backoff.is_empty() && backoff.len() <= 10);
-    assert!(rt; queue.get(id).is_none());
+// Adds a message, if there is none of its id and its intervals aren't too long.
+fn add(alloc: Global, queue: &mut Queue, message: Waiting) -> Result<bool, NoMemory> {
+    let (commit, index, due, first, second) = message;
+    let id = MsgId { commit, index };
+    if queue.get(id).is_some() || first > MAX_INTERVAL_MS || second > MAX_INTERVAL_MS {
+        return Ok(false);
+    }
     queue.reserve(1)?;
     queue.add(Message {
         id,
-        payload: Bytes::copy_of(alloc, b"payload")?,
+        payload: Bytes::of(Vec::new(alloc)),
         due,
         fails: 0,
         undelivered: Run::new(alloc),
-        backoff: Run::of(Vec::from_slice(alloc, backoff)?),
+        backoff: Run::of(Vec::from_slice(alloc, &[first, second])?),
     });
-    Ok(())
+    Ok(true)
 }
 
-// Takes the message, which has to be the one that is due first.
-fn take_first(rt: &impl Abort, queue: &mut Queue, at: u64, id: MsgId) {
+// Takes the message that is due first, and gives its id, or 0 and when one will be due.
+fn take(queue: &mut Queue, at: u64) -> (u64, u64) {
     match queue.next_due(at) {
         Due::Now(first) => {
-            assert_eq!(rt; first, id);
             queue.take(first);
+            (first.commit, first.index as u64)
         }
-        Due::Nothing { .. } => panic!(rt; "nothing is due"),
+        Due::Nothing { next } => (0, next.unwrap_or(0)),
     }
-    assert!(rt; queue.is_out(id));
 }
 
-// Fails the message, which is out and has an interval left, and says when it is due again.
-fn again(rt: &impl Abort, queue: &mut Queue, id: MsgId, at: u64) -> u64 {
-    assert!(rt; queue.is_out(id));
-    let due = match queue.retry(id, at) {
-        Retry::Again { due } => due,
-        Retry::Exhausted(_) => panic!(rt; "it had its last interval"),
-    };
-    assert!(rt; !queue.is_out(id));
-    due
-}
-
-// Fails the message, which is out and has no interval left, and gives it.
-fn for_good(rt: &impl Abort, queue: &mut Queue, id: MsgId, at: u64) -> Message {
-    assert!(rt; queue.is_out(id));
+// Fails a message that is out, and gives 1 and when it is due again, or 0 and how often it had failed.
+fn fail(queue: &mut Queue, id: MsgId, at: u64) -> (u64, u64) {
+    if !queue.is_out(id) {
+        return (9, 9);
+    }
     match queue.retry(id, at) {
-        Retry::Again { .. } => panic!(rt; "it waits once more"),
-        Retry::Exhausted(message) => message,
+        Retry::Again { due } => (1, due),
+        Retry::Exhausted(message) => (0, message.fails as u64),
     }
 }
 
-fn settle(rt: &impl Abort, queue: &mut Queue, id: MsgId) {
-    assert!(rt; queue.is_out(id));
+// Settles a message that is out, and gives how many are left.
+fn settle(queue: &mut Queue, id: MsgId) -> (u64, u64) {
+    if !queue.is_out(id) {
+        return (9, 9);
+    }
     queue.settle(id);
-    assert!(rt; queue.get(id).is_none());
+    (1, queue.len() as u64)
+}
+
+// A call's name, the commit and the index of the id, the moment, and the two numbers of the answer.
+type Call = (char, u64, u32, u64, u64, u64);
+
+fn call(queue: &mut Queue, call: Call) -> (u64, u64) {
+    let (name, commit, index, at, _, _) = call;
+    let id = MsgId { commit, index };
+    match name {
+        't' => take(queue, at),
+        'f' => fail(queue, id, at),
+        _ => settle(queue, id),
+    }
+}
+
+fn answers(
+    rt: &impl Abort,
+    alloc: Global,
+    messages: &[Waiting],
+    calls: &[Call],
+) -> Result<Queue, Fail> {
+    let mut queue = Queue::new(alloc);
+    for message in messages {
+        assert!(rt; add(alloc, &mut queue, *message)?);
+    }
+    for each in calls {
+        assert_eq!(rt;
+            call(&mut queue, *each),
+            (each.4, each.5),
+            "{} at {}",
+            each.0,
+            each.3
+        );
+    }
+    Ok(queue)
 }
 
 #[test]
-fn the_first_retries_wait_100_and_1000_milliseconds(rt: HostRuntime) -> Result<(), Fail> {
-    let mut queue = Queue::new(rt.alloc());
-    let default = [100, 1000, 5000, 30000, 60000];
-    add(&rt, rt.alloc(), &mut queue, id(1, 0), 5, &default)?;
-    take_first(&rt, &mut queue, 5, id(1, 0));
-    assert_eq!(rt; again(&rt, &mut queue, id(1, 0), 10), 110);
-    assert_eq!(rt; queue.next_due(109), Due::Nothing { next: Some(110) });
-    take_first(&rt, &mut queue, 110, id(1, 0));
-    assert_eq!(rt; again(&rt, &mut queue, id(1, 0), 200), 1200);
-    Ok(())
-}
-
-#[test]
-fn one_interval_is_one_retry(rt: HostRuntime) -> Result<(), Fail> {
-    let mut queue = Queue::new(rt.alloc());
-    add(&rt, rt.alloc(), &mut queue, id(1, 0), 0, &[5])?;
-    take_first(&rt, &mut queue, 0, id(1, 0));
-    assert_eq!(rt; again(&rt, &mut queue, id(1, 0), 7), 12);
-    take_first(&rt, &mut queue, 12, id(1, 0));
-    let message = for_good(&rt, &mut queue, id(1, 0), 12);
-    assert!(rt; message.id == id(1, 0) && message.fails == 1);
-    assert!(rt; message.payload.as_slice() == b"payload".as_slice());
+fn a_failure_waits_an_interval_and_the_third_is_the_last(rt: HostRuntime) -> Result<(), Fail> {
+    let queue = answers(
+        &rt,
+        rt.alloc(),
+        &[(1, 0, 5, 100, 1000)],
+        &[
+            ('t', 0, 0, 5, 1, 0),
+            ('f', 1, 0, 10, 1, 110),
+            ('t', 0, 0, 109, 0, 110),
+            ('t', 0, 0, 110, 1, 0),
+            ('f', 1, 0, 200, 1, 1200),
+            ('t', 0, 0, 1200, 1, 0),
+            ('f', 1, 0, 1200, 0, 2),
+            ('t', 0, 0, u64::MAX, 0, 0),
+        ],
+    )?;
     assert_eq!(rt; queue.len(), 0);
-    assert_eq!(rt; queue.next_due(u64::MAX), Due::Nothing { next: None });
     Ok(())
 }
 
 #[test]
 fn messages_come_by_moment_and_then_by_id(rt: HostRuntime) -> Result<(), Fail> {
-    let mut queue = Queue::new(rt.alloc());
-    add(&rt, rt.alloc(), &mut queue, id(1, 0), 9, &[1])?;
-    add(&rt, rt.alloc(), &mut queue, id(2, 0), 7, &[1])?;
-    add(&rt, rt.alloc(), &mut queue, id(1, 1), 7, &[1])?;
-    assert_eq!(rt; queue.next_due(6), Due::Nothing { next: Some(7) });
-    take_first(&rt, &mut queue, 8, id(1, 1));
-    take_first(&rt, &mut queue, 8, id(2, 0));
-    assert_eq!(rt; queue.next_due(8), Due::Nothing { next: Some(9) });
-    take_first(&rt, &mut queue, 9, id(1, 0));
-    assert_eq!(rt; queue.next_due(9), Due::Nothing { next: None });
+    let queue = answers(
+        &rt,
+        rt.alloc(),
+        &[(1, 0, 9, 1, 1), (2, 0, 7, 1, 1), (1, 1, 7, 1, 1)],
+        &[
+            ('t', 0, 0, 6, 0, 7),
+            ('t', 0, 0, 8, 1, 1),
+            ('f', 1, 0, 8, 9, 9),
+            ('s', 1, 1, 8, 1, 2),
+            ('t', 0, 0, 8, 2, 0),
+            ('t', 0, 0, 8, 0, 9),
+            ('t', 0, 0, 9, 1, 0),
+            ('t', 0, 0, 9, 0, 0),
+        ],
+    )?;
+    assert_eq!(rt; queue.len(), 2);
     Ok(())
 }
 
-#[test]
-fn two_messages_of_one_commit_are_two(rt: HostRuntime) -> Result<(), Fail> {
-    let mut queue = Queue::new(rt.alloc());
-    add(&rt, rt.alloc(), &mut queue, id(3, 0), 0, &[1])?;
-    add(&rt, rt.alloc(), &mut queue, id(3, 1), 0, &[1])?;
-    take_first(&rt, &mut queue, 0, id(3, 0));
-    assert!(rt; !queue.is_out(id(3, 1)));
-    settle(&rt, &mut queue, id(3, 0));
-    take_first(&rt, &mut queue, 0, id(3, 1));
-    assert_eq!(rt; queue.len(), 1);
-    Ok(())
-}
-
-// The ids from the least on, each with a look above the one before it.
-fn goes_over(rt: &impl Abort, queue: &Queue, ids: &[MsgId]) {
+// The commits of the messages from the least id on, as the digits of a number.
+fn order(queue: &Queue) -> u64 {
+    let mut digits = 0u64;
     let mut last = None;
-    for id in ids {
-        match queue.above(last) {
-            Some(message) => assert_eq!(rt; message.id, *id),
-            None => panic!(rt; "one is missing"),
+    for _ in 0..queue.len() {
+        if let Some(message) = queue.above(last) {
+            digits = digits.wrapping_mul(10).wrapping_add(message.id.commit);
+            last = Some(message.id);
         }
-        last = Some(*id);
     }
-    assert!(rt; queue.above(last).is_none());
+    digits
 }
 
 #[test]
 fn a_copy_goes_its_own_way(rt: HostRuntime) -> Result<(), Fail> {
-    let mut queue = Queue::new(rt.alloc());
-    for commit in [4u64, 2, 3] {
-        add(&rt, rt.alloc(), &mut queue, id(commit, 0), commit, &[1])?;
-    }
-    take_first(&rt, &mut queue, 9, id(2, 0));
+    let mut queue = answers(
+        &rt,
+        rt.alloc(),
+        &[(4, 0, 4, 1, 1), (2, 0, 2, 1, 1), (3, 0, 3, 1, 1)],
+        &[('t', 0, 0, 9, 2, 0)],
+    )?;
     let mut copy = queue.copy(rt.alloc())?;
-    goes_over(&rt, &copy, &[id(2, 0), id(3, 0), id(4, 0)]);
-    settle(&rt, &mut copy, id(2, 0));
-    take_first(&rt, &mut copy, 9, id(3, 0));
-    goes_over(&rt, &copy, &[id(3, 0), id(4, 0)]);
-    goes_over(&rt, &queue, &[id(2, 0), id(3, 0), id(4, 0)]);
-    assert!(rt; queue.is_out(id(2, 0)) && !queue.is_out(id(3, 0)));
-    assert_eq!(rt; again(&rt, &mut queue, id(2, 0), u64::MAX), MAX_MOMENT + 1);
-    Ok(())
-}
-
-#[test]
-fn a_thousand_messages_come_and_go_in_any_order(rt: HostRuntime) -> Result<(), Fail> {
-    let mut queue = Queue::new(rt.alloc());
-    for i in 1..=1000u64 {
-        let commit = i * 379 % 1009;
-        add(
-            &rt,
-            rt.alloc(),
-            &mut queue,
-            id(commit, 0),
-            commit % 10,
-            &[1],
-        )?;
-    }
-    let mut moment = 0;
-    for _ in 0..1000 {
-        match queue.next_due(u64::MAX) {
-            Due::Now(first) => {
-                assert!(rt; first.commit % 10 >= moment);
-                moment = first.commit % 10;
-                queue.take(first);
-                settle(&rt, &mut queue, first);
-            }
-            Due::Nothing { .. } => panic!(rt; "one is missing"),
-        }
-    }
-    assert_eq!(rt; queue.len(), 0);
+    let id = MsgId {
+        commit: 2,
+        index: 0,
+    };
+    assert_eq!(rt; settle(&mut copy, id), (1, 2));
+    assert_eq!(rt; take(&mut copy, 9), (3, 0));
+    assert_eq!(rt; (order(&queue), order(&copy)), (234, 34));
+    assert_eq!(rt; fail(&mut queue, id, u64::MAX), (1, MAX_MOMENT + 1));
     Ok(())
 }

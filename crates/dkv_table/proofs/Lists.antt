@@ -3,31 +3,26 @@ use Rattle.std.proofs.Common.{◌≡◌, ℕ, zero, suc, ◌<◌, ◌≤◌, Boo
 use Rattle.std.specs.List.{list_all}
 use Rattle.std.proofs.lemmas.Bool.{and_parts, and_from}
 
+-- what is not so fails
 fails : (b : Bool) → not b ≡ true → b ≡ false
 fails true h = sym h
 fails false h = refl
 
 module _ {X : Type 0} (p : X → Bool) where
+  -- what holds of each before a place holds of all before it
   pub all-take : (xs : List X) (i : ℕ) → ((k : ℕ) (d : X) → k < i → p (get_or xs k d) ≡ true) → list_all p (take i xs) ≡ true
   all-take xs zero each = refl
   all-take [] (suc i) each = refl
   all-take (x ∷ xs) (suc i) each = and_from _ _ (each 0 x (omega arith)) (all-take xs i (λ k d lt. each (suc k) d (omega arith)))
 
+  -- and likewise from a place on
   pub all-drop : (xs : List X) (i : ℕ) → ((k : ℕ) (d : X) → i ≤ k → k < length xs → p (get_or xs k d) ≡ true) → list_all p (drop i xs) ≡ true
   all-drop [] zero each = refl
   all-drop [] (suc i) each = refl
   all-drop (x ∷ xs) zero each = and_from _ _ (each 0 x (omega arith) (omega arith)) (all-drop xs zero (λ k d le lt. each (suc k) d (omega arith) (omega arith)))
   all-drop (x ∷ xs) (suc i) each = all-drop xs i (λ k d le lt. each (suc k) d (omega arith) (omega arith))
 
-  pub all_at : (xs : List X) (i : ℕ) (d : X) → list_all p xs ≡ true → i < length xs → p (get_or xs i d) ≡ true
-  all_at [] i d all lt = absurd (omega arith)
-  all_at (x ∷ xs) zero d all lt = (and_parts _ _ all).0
-  all_at (x ∷ xs) (suc i) d all lt = all_at xs i d (and_parts _ _ all).1 (omega arith)
-
-  pub all_weaker : (q : X → Bool) → ((x : X) → p x ≡ true → q x ≡ true) → (xs : List X) → list_all p xs ≡ true → list_all q xs ≡ true
-  all_weaker q so [] all = refl
-  all_weaker q so (x ∷ xs) all = and_from _ _ (so x (and_parts _ _ all).0) (all_weaker q so xs (and_parts _ _ all).1)
-
+  -- what holds of all holds of those from a place on
   pub all_of_drop : (xs : List X) (i : ℕ) → list_all p xs ≡ true → list_all p (drop i xs) ≡ true
   all_of_drop xs zero all = all
   all_of_drop [] (suc i) all = refl

@@ -9,12 +9,14 @@ use Rattle.std.proofs.lemmas.List.Sorted.{searchable_from_sorted}
 use Rattle.dkv_base.specs.declared.types.Entry.{Entry}
 use Rattle.dkv_base.specs.State.{key_cmp, is_in_key_order}
 use Rattle.dkv_table.specs.Places.{is_below, is_above, is_from, IsAt, IsGap, IsStart}
-use Rattle.dkv_table.proofs.Keys.{greater, less, same_key, le-lt, itself}
-use Rattle.dkv_table.proofs.Lists.{all-take, all-drop, all_at, all_weaker}
+use Rattle.dkv_base.proofs.Lists.{all_at, all_weaker}
+use Rattle.dkv_base.proofs.Ranks.{greater, less}
+use Rattle.dkv_table.proofs.Keys.{same_key, le-lt, itself}
+use Rattle.dkv_table.proofs.Lists.{all-take, all-drop}
 
 -- no entry's key is below that of the one before it
 sorted : (es : List Entry) → is_in_key_order es ≡ true → IsSortedBy (λ a b. is_lt (key_cmp a.key b.key)) es
-sorted es order k d low lt = rw add-one (ap is_lt (greater (get_or es k d).key (get_or es (suc k) d).key (rises es k d order (omega arith))))
+sorted es order k d low lt = rw add-one (ap is_lt (greater nat_list_cmp_total (get_or es k d).key (get_or es (suc k) d).key (rises es k d order (omega arith))))
   where
     rises : (es : List Entry) (k : ℕ) (d : Entry) → is_in_key_order es ≡ true → suc k < length es → is_lt (key_cmp (get_or es k d).key (get_or es (suc k) d).key) ≡ true
     rises [] k d order lt = absurd (omega arith)
@@ -52,7 +54,7 @@ searched key es order (Err at) in_range parted =
       absent = record {
         in_range = in_range;
         below = all-take (is_below key) es at (λ k d lt. ap is_lt (split.0 k d (omega arith) lt));
-        above = all-drop (is_above key) es at (λ k d le lt. less _ key (split.1 k d le lt));
+        above = all-drop (is_above key) es at (λ k d le lt. less nat_list_cmp_total _ key (split.1 k d le lt));
       };
     }
 

@@ -1,3 +1,4 @@
+// The calls of a table, and their answers, as values.
 use dkv_base::{Bytes, Entry, Run};
 
 /// A call of a table.

@@ -1,6 +1,8 @@
-ghost use Rattle.std.specs.Prelude.{◌≡◌, [], ◌∷◌, IfSome, IfNone};
+// A walk over entries.
+ghost use Rattle.std.specs.Prelude.{◌≡◌, [], ◌∷◌, IfSome, IfNone, IfOk};
 
-use dkv_base::Entry;
+use dkv_base::{Entry, NoMemory, Run, TryCopy};
+use std::alloc::Global;
 use std::marker::Model;
 
 /// A walk over entries of a table, which contracts see as the list of entries still to come.
@@ -59,4 +61,15 @@ impl<'a> Cursor<'a> {
             }
         }
     }
+}
+
+/// Copies of all entries of a walk. Takes memory for them.
+pub fn copies(alloc: Global, mut cursor: Cursor<'_>) -> Result<Run<Entry>, NoMemory>
+    ensures { IfOk result (λ entries. entries ≡ cursor.entry) }
+{
+    let mut entries = Run::new(alloc);
+    while let Some(entry) = cursor.next() {
+        entries.add(entry.copy(alloc)?)?;
+    }
+    Ok(entries)
 }

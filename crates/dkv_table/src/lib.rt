@@ -12,7 +12,7 @@ mod runs;
 mod table;
 
 pub use calls::{TableAnswer, TableCall};
-pub use cursor::Cursor;
+pub use cursor::{Cursor, copies};
 pub use plain::Plain;
 pub use runs::run_calls;
 pub use table::Table;

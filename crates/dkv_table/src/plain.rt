@@ -1,4 +1,4 @@
-// One vector in key order. A search goes by halves.
+// A table in one vector in key order. A search goes by halves.
 ghost use Rattle.std.specs.Prelude.{◌≡◌, [], IsTrue};
 ghost use Rattle.dkv_base.specs.State.{is_in_key_order};
 
@@ -44,10 +44,7 @@ impl Table for Plain {
     ghost ordered = { λ p. p.ordered };
 
     fn reserve(&mut self, n: usize) -> Result<(), NoMemory> {
-        match self.entries.reserve(n) {
-            Ok(()) => Ok(()),
-            Err(_) => Err(NoMemory),
-        }
+        Ok(self.entries.reserve(n)?)
     }
 
     fn get(&self, key: &[u8]) -> Option<&Entry> {

@@ -1,29 +1,10 @@
 // One run of calls, over any table.
-ghost use Rattle.std.specs.Prelude.{◌≡◌, ℕ, [], ◌∷◌, ◌++◌, take, IfOk, OnOk, OnErr};
-ghost use Rattle.dkv_table.specs.Runs.{answer_of, after_call, answers, content_after};
+ghost use Rattle.std.specs.Prelude.{◌≡◌, IfOk, OnOk, OnErr};
+ghost use Rattle.dkv_table.specs.Runs.{answer_of, after_call, answers, content_after, IsAfterSome};
 
-use crate::{Cursor, Table, TableAnswer, TableCall};
-use dkv_base::{Entry, NoMemory, Run, TryCopy};
+use crate::{Table, TableAnswer, TableCall, copies};
+use dkv_base::{NoMemory, Run, TryCopy};
 use std::alloc::Global;
-
-fn push<T: Drop>(items: &mut Run<T>, item: T) -> Result<(), NoMemory>
-    ensures { OnOk result (items.new ≡ items.old ++ item ∷ []) }
-{
-    match items.push(item) {
-        Ok(()) => Ok(()),
-        Err(_) => Err(NoMemory),
-    }
-}
-
-fn copies(alloc: Global, mut cursor: Cursor<'_>) -> Result<Run<Entry>, NoMemory>
-    ensures { IfOk result (λ entries. entries ≡ cursor.entry) }
-{
-    let mut entries = Run::new(alloc);
-    while let Some(entry) = cursor.next() {
-        push(&mut entries, entry.copy(alloc)?)?;
-    }
-    Ok(entries)
-}
 
 // A call that finds no memory changes nothing.
 fn answer<T: Table>(alloc: Global, table: &mut T, call: TableCall) -> Result<TableAnswer, NoMemory>
@@ -65,12 +46,14 @@ pub fn run_calls<T: Table>(
     calls: Vec<TableCall>,
 ) -> Result<Run<TableAnswer>, NoMemory>
     ensures answers { IfOk result (λ given. given ≡ answers calls.items (T.content table.old)) }
-    ensures content { OnOk result (T.content table.new ≡ content_after calls.items (T.content table.old)) }
-    ensures err { OnErr result ((n : ℕ) × (T.content table.new ≡ content_after (take n calls.items) (T.content table.old))) }
+    ensures content { OnOk result (
+        T.content table.new ≡ content_after calls.items (T.content table.old)) }
+    ensures err { OnErr result (
+        IsAfterSome calls.items (T.content table.old) (T.content table.new)) }
 {
     let mut given = Run::new(alloc);
     for call in calls {
-        push(&mut given, answer(alloc, table, call)?)?;
+        given.add(answer(alloc, table, call)?)?;
     }
     Ok(given)
 }

@@ -3,18 +3,18 @@ use Rattle.std.proofs.Common.{◌≡◌, ℕ, ◌<◌, ◌≤◌, true, false, r
 use Rattle.std.specs.Prelude.{◌↔◌}
 use Rattle.std.proofs.lemmas.Bool.{cases_lt, le-leb}
 use Rattle.std.proofs.lemmas.Bool.Decides.{leb_tells}
-use Rattle.dkv_base.specs.State.{taken_moment}
+use Rattle.dkv_base.specs.Moments.{capped_moment}
 use Rattle.dkv_token.specs.declared.site.Site.{Site}
 use Rattle.dkv_token.specs.declared.token.TokenError.TheVariants.{BadToken, Expired}
 use Rattle.dkv_token.specs.Token.{IsToken, answer_at, has_ended, token_expiry}
 use Rattle.dkv_token.proofs.Exact.{found_is_token, token_is_found}
 
 -- a token that has ended, and one that has not
-ended_at : (t e : ℕ) → e ≤ taken_moment t → answer_at t (Some e) ≡ Err (Expired e)
-ended_at t e reached = let ended : has_ended t e ≡ true = le-leb e (taken_moment t) reached in rw ended refl
+ended_at : (t e : ℕ) → e ≤ capped_moment t → answer_at t (Some e) ≡ Err (Expired e)
+ended_at t e reached = let ended : has_ended t e ≡ true = le-leb e (capped_moment t) reached in rw ended refl
 
-lasts_at : (t e : ℕ) → taken_moment t < e → answer_at t (Some e) ≡ Ok tt
-lasts_at t e before = elim (leb_tells e (taken_moment t)) [
+lasts_at : (t e : ℕ) → capped_moment t < e → answer_at t (Some e) ≡ Ok tt
+lasts_at t e before = elim (leb_tells e (capped_moment t)) [
   | inl ended ↦ absurd (omega (arith, ended.1, before))
   | inr lasts ↦ let is : has_ended t e ≡ false = lasts.0 in rw is refl
 ]
@@ -22,14 +22,14 @@ lasts_at t e before = elim (leb_tells e (taken_moment t)) [
 -- which answer there is, by the expiry that was found
 bad_of : (t : ℕ) (o : Option ℕ) → answer_at t o ≡ Err BadToken → o ≡ None
 bad_of t None h = refl
-bad_of t (Some e) h = elim (cases_lt (taken_moment t) e) [
+bad_of t (Some e) h = elim (cases_lt (capped_moment t) e) [
   | inr reached ↦ let is = ended_at t e reached in cc
   | inl before ↦ let is = lasts_at t e before in cc
 ]
 
-expired_of : (t e : ℕ) (o : Option ℕ) → answer_at t o ≡ Err (Expired e) → (o ≡ Some e) × (e ≤ taken_moment t)
+expired_of : (t e : ℕ) (o : Option ℕ) → answer_at t o ≡ Err (Expired e) → (o ≡ Some e) × (e ≤ capped_moment t)
 expired_of t e None h = absurd (cc)
-expired_of t e (Some f) h = elim (cases_lt (taken_moment t) f) [
+expired_of t e (Some f) h = elim (cases_lt (capped_moment t) f) [
   | inr reached ↦
       let is = ended_at t f reached in
       let same : f ≡ e = cc in
@@ -37,9 +37,9 @@ expired_of t e (Some f) h = elim (cases_lt (taken_moment t) f) [
   | inl before ↦ absurd (let is = lasts_at t f before in cc)
 ]
 
-good_of : (t : ℕ) (o : Option ℕ) → answer_at t o ≡ Ok tt → (e : ℕ) × (o ≡ Some e) × (taken_moment t < e)
+good_of : (t : ℕ) (o : Option ℕ) → answer_at t o ≡ Ok tt → (e : ℕ) × (o ≡ Some e) × (capped_moment t < e)
 good_of t None h = absurd (cc)
-good_of t (Some e) h = elim (cases_lt (taken_moment t) e) [
+good_of t (Some e) h = elim (cases_lt (capped_moment t) e) [
   | inr reached ↦ absurd (let is = ended_at t e reached in cc)
   | inl before ↦ (e, refl, before)
 ]
@@ -59,13 +59,13 @@ bad site text t = (
   λ none. ap (answer_at t) (none_found site text (token_expiry site text) refl none),
 )
 
-pub expired : (site : Site) (text : List ℕ) (t e : ℕ) → (answer_at t (token_expiry site text) ≡ Err (Expired e)) ↔ (IsToken site text e × (e ≤ taken_moment t))
+pub expired : (site : Site) (text : List ℕ) (t e : ℕ) → (answer_at t (token_expiry site text) ≡ Err (Expired e)) ↔ (IsToken site text e × (e ≤ capped_moment t))
 expired site text t e = (
   λ h. let found = expired_of t e (token_expiry site text) h in (found_is_token site text e found.0, found.1),
   λ both. ap (answer_at t) (token_is_found site text e both.0) ∙ ended_at t e both.1,
 )
 
-pub good : (site : Site) (text : List ℕ) (t : ℕ) → (answer_at t (token_expiry site text) ≡ Ok tt) ↔ ((e : ℕ) × IsToken site text e × (taken_moment t < e))
+pub good : (site : Site) (text : List ℕ) (t : ℕ) → (answer_at t (token_expiry site text) ≡ Ok tt) ↔ ((e : ℕ) × IsToken site text e × (capped_moment t < e))
 good site text t = (
   λ h. let found = good_of t (token_expiry site text) h in (found.0, found_is_token site text found.0 found.1, found.2),
   λ all. ap (answer_at t) (token_is_found site text all.0 all.1) ∙ lasts_at t all.0 all.2,

@@ -1,9 +1,10 @@
 -- The definitions on cases from outside, by computing: RFC 4231, and a token that OpenSSL signed.
-use Rattle.std.proofs.Common.{◌≡◌, refl, [], ◌∷◌, ◌++◌, Some, None, codes, true, false}
+use Rattle.std.proofs.Common.{◌≡◌, ◌-◌, refl, [], ◌∷◌, ◌++◌, Some, None, codes, true, false}
 use Rattle.std.specs.Prelude.{replicate, slice_set}
 use Rattle.sha2.specs.Sha256.{compress, digest_bytes, first_words, hash_after, rounds, schedule, sha256}
 use Rattle.hex.specs.Hex.{encode_lower, encode_with, decode_pairs}
 use Rattle.dkv_token.specs.declared.site.Site.{Site}
+use Rattle.dkv_token.specs.declared.token.TheConstants.{TOKEN_LIFE_MS}
 use Rattle.dkv_token.specs.Mac.{hmac}
 use Rattle.dkv_token.specs.Token.{sign, token_expiry, has_ended}
 
@@ -20,17 +21,17 @@ case_2 = refl
 abbrev site : Site
 site = record { database_id = replicate 6 0 ++ 0x40 ∷ 0 ∷ 0x80 ∷ replicate 7 0; secret = replicate 32 0; access = []; url = [] }
 
-token_of_an_hour : sign site 3600000 ≡ codes "dkv1.000000000036ee80.8c31b0f3c47d2a4f42055c8c4774a556c6eb30d1784aada1db49a531dec9139f"
+token_of_an_hour : sign site TOKEN_LIFE_MS ≡ codes "dkv1.000000000036ee80.8c31b0f3c47d2a4f42055c8c4774a556c6eb30d1784aada1db49a531dec9139f"
 unfolding first_words schedule rounds compress hash_after digest_bytes sha256 encode_with
 token_of_an_hour = refl
 
-found : token_expiry site (sign site 3600000) ≡ Some 3600000
+found : token_expiry site (sign site TOKEN_LIFE_MS) ≡ Some TOKEN_LIFE_MS
 unfolding first_words schedule rounds compress hash_after digest_bytes sha256 encode_with decode_pairs
 found = refl
 
-changed_at_a_digit : token_expiry site (slice_set (sign site 3600000) 20 49) ≡ None
+changed_at_a_digit : token_expiry site (slice_set (sign site TOKEN_LIFE_MS) 20 49) ≡ None
 unfolding first_words schedule rounds compress hash_after digest_bytes sha256 encode_with decode_pairs
 changed_at_a_digit = refl
 
-ends_at_its_expiry : has_ended 3599999 3600000 ∷ has_ended 3600000 3600000 ∷ [] ≡ false ∷ true ∷ []
+ends_at_its_expiry : has_ended (TOKEN_LIFE_MS - 1) TOKEN_LIFE_MS ∷ has_ended TOKEN_LIFE_MS TOKEN_LIFE_MS ∷ [] ≡ false ∷ true ∷ []
 ends_at_its_expiry = refl

@@ -7,23 +7,28 @@ use Rattle.std.specs.Prelude.{ℕ, ◌≡◌, ◌^◌, ◌<◌, Bool, nat_le, if
 use Rattle.std.specs.Int.{w64, to_be_bytes, from_be_bytes}
 use Rattle.std.specs.Result.{result_unwrap_or}
 use Rattle.hex.specs.Hex.{encode_lower, decode_of}
-use Rattle.dkv_base.specs.State.{taken_moment}
+use Rattle.dkv_base.specs.Moments.{capped_moment}
 use Rattle.dkv_token.specs.declared.site.Site.{Site}
+use Rattle.dkv_token.specs.declared.token.TheConstants.{DOT, EXPIRY_START, EXPIRY_END}
 use Rattle.dkv_token.specs.declared.token.TokenError.{TokenError}
 use Rattle.dkv_token.specs.declared.token.TokenError.TheVariants.{BadToken, Expired}
 use Rattle.dkv_token.specs.Mac.{hmac}
 
 -- what is signed: the id and the expiry in 8 bytes, greatest first
-abbrev pub signed : Site → ℕ → List ℕ
-signed site e = site.database_id ++ to_be_bytes w64 e
+abbrev pub signed_message : Site → ℕ → List ℕ
+signed_message site e = site.database_id ++ to_be_bytes w64 e
 
--- dkv1, a dot, 16 digits of the expiry, a dot and 64 digits of the signature
+-- what each token begins with
+abbrev pub prefix : List ℕ
+prefix = codes "dkv1."
+
+-- the prefix, 16 digits of the expiry, a dot and 64 digits of the signature
 abbrev pub token_text : ℕ → List ℕ → List ℕ
-token_text e signature = codes "dkv1." ++ encode_lower (to_be_bytes w64 e) ++ 46 ∷ encode_lower signature
+token_text e signature = prefix ++ encode_lower (to_be_bytes w64 e) ++ DOT ∷ encode_lower signature
 
 -- the token of the site that ends at e
 abbrev pub sign : Site → ℕ → List ℕ
-sign site e = token_text e (hmac site.secret (signed site e))
+sign site e = token_text e (hmac site.secret (signed_message site e))
 
 -- the text is the token of the site that ends at e
 abbrev pub IsToken : Site → List ℕ → ℕ → Type 0
@@ -34,16 +39,16 @@ abbrev pub number_of_digits : List ℕ → ℕ
 number_of_digits digits = from_be_bytes w64 (result_unwrap_or (decode_of digits) [])
 
 -- the number that the sixteen digits of a token write
-abbrev pub expiry_digits : List ℕ → ℕ
-expiry_digits text = number_of_digits (slice_range text 5 21)
+abbrev pub written_expiry : List ℕ → ℕ
+written_expiry text = number_of_digits (slice_range text EXPIRY_START EXPIRY_END)
 
 -- the text is the token that ends where its own digits say, or it is none
 abbrev pub token_expiry : Site → List ℕ → Option ℕ
-token_expiry site text = if bytes_eq text (sign site (expiry_digits text)) then Some (expiry_digits text) else None
+token_expiry site text = if bytes_eq text (sign site (written_expiry text)) then Some (written_expiry text) else None
 
 -- at this moment a token that ends at e has ended
 abbrev pub has_ended : ℕ → ℕ → Bool
-has_ended t e = nat_le e (taken_moment t)
+has_ended t e = nat_le e (capped_moment t)
 
 -- at moment t: a text that is no token, a token that has ended, or one that is good
 abbrev pub answer_at : ℕ → Option ℕ → Result Unit TokenError

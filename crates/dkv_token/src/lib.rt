@@ -13,5 +13,9 @@ mod tests;
 mod token;
 
 pub use laws::{one_expiry, tokens_are_exact, two_texts};
-pub use site::Site;
-pub use token::{TokenError, check_token, sign};
+pub use mac::{SECRET_BYTES, SIGNATURE_BYTES};
+pub use site::{DATABASE_ID_BYTES, Site};
+pub use token::{
+    DOT, EXPIRY_END, EXPIRY_START, MESSAGE_BYTES, PREFIX, SIGNATURE_START, TOKEN_BYTES,
+    TOKEN_LIFE_MS, TokenError, check_token, sign,
+};

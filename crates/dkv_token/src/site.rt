@@ -1,13 +1,18 @@
+//! A database as its clients meet it.
+use crate::mac::SECRET_BYTES;
 use dkv_base::Bytes;
 use std::fmt;
+
+/// The length of a database's id.
+pub const DATABASE_ID_BYTES: usize = 16;
 
 /// A database as its clients meet it.
 #[derive(Drop)]
 pub struct Site {
-    /// The 16 bytes of the database's UUID, in the order of its text.
-    pub database_id: [u8; 16],
+    /// The bytes of the database's UUID, in the order of its text.
+    pub database_id: [u8; DATABASE_ID_BYTES],
     /// The key under which tokens are signed.
-    pub secret: [u8; 32],
+    pub secret: [u8; SECRET_BYTES],
     /// The access token that an exchange needs.
     pub access: Bytes,
     /// Where the server is reached, without the path.

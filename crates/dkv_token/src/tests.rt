@@ -1,25 +1,36 @@
-use crate::mac::signature_of;
-use crate::{Site, TokenError, check_token, sign};
+//! Signatures and tokens against RFC 4231 and a token that OpenSSL signed.
+use crate::mac::hmac;
+use crate::{SECRET_BYTES, Site, TOKEN_BYTES, TOKEN_LIFE_MS, TokenError, check_token, sign};
 use dkv_base::Bytes;
 use std::alloc::Global;
 use std::test::Fail;
 
 // The token that OpenSSL signs for the site below at moment 0, for an hour.
-const TOKEN: &[u8; 86] =
+const TOKEN: &[u8; TOKEN_BYTES] =
     b"dkv1.000000000036ee80.8c31b0f3c47d2a4f42055c8c4774a556c6eb30d1784aada1db49a531dec9139f";
 
 // The database 00000000-0000-4000-8000-000000000000, with a secret of zeros.
 fn site(alloc: Global) -> Site {
     Site {
         database_id: [0, 0, 0, 0, 0, 0, 0x40, 0, 0x80, 0, 0, 0, 0, 0, 0, 0],
-        secret: [0; 32],
+        secret: [0; SECRET_BYTES],
         access: Bytes::of(Vec::new(alloc)),
         url: Bytes::of(Vec::new(alloc)),
     }
 }
 
-// The cases of RFC 4231, section 4, whose key has 32 bytes or fewer: filled with zeros, as the definition fills it. Of
-// the last one the RFC prints 32 digits.
+// The digits of a message's signature, under a key filled with zeros as the definition fills it.
+fn signature_digits(alloc: Global, key: &str, message: &str) -> Result<String, Fail> {
+    let key = hex::decode(alloc, key)?;
+    let mut filled = [0u8; SECRET_BYTES];
+    for (place, byte) in filled.iter_mut().zip(key.as_slice()) {
+        *place = *byte;
+    }
+    let message = hex::decode(alloc, message)?;
+    Ok(hex::encode(alloc, hmac(&filled, message.as_slice()))?)
+}
+
+// The cases of RFC 4231, section 4, whose key has 32 bytes or fewer. Of the last one the RFC prints 32 digits.
 #[test]
 fn signatures_are_those_of_the_rfc(rt: HostRuntime) -> Result<(), Fail> {
     for (key, message, digits) in [
@@ -49,48 +60,48 @@ fn signatures_are_those_of_the_rfc(rt: HostRuntime) -> Result<(), Fail> {
             "a3b6167473100ee06e0c796c2955552b",
         ),
     ] {
-        let mut filled = [0u8; 32];
-        for (place, byte) in filled
-            .iter_mut()
-            .zip(hex::decode(rt.alloc(), key)?.as_slice())
-        {
-            *place = *byte;
-        }
-        let message = hex::decode(rt.alloc(), message)?;
-        let signature = hex::encode(rt.alloc(), signature_of(&filled, message.as_slice()))?;
+        let signature = signature_digits(rt.alloc(), key, message)?;
         assert!(rt; signature.as_str().starts_with(digits), "{signature}");
     }
     Ok(())
 }
 
-#[test]
-fn a_token_is_good_until_its_expiry(rt: HostRuntime) {
-    let site = site(rt.alloc());
-    assert_eq!(rt; sign(&site, 3_600_000).as_slice(), TOKEN.as_slice());
-    let expired = Err(TokenError::Expired { expiry: 3_600_000 });
-    for (at, answer) in [
-        (0, Ok(())),
-        (3_599_999, Ok(())),
-        (3_600_000, expired),
-        (u64::MAX, expired),
-    ] {
-        assert_eq!(rt; check_token(&site, TOKEN, at), answer, "at {at}");
+// What a check of the token above answers, in words.
+fn answer(alloc: Global, at: u64) -> Result<String, Fail> {
+    match check_token(&site(alloc), TOKEN, at) {
+        Ok(()) => Ok(format!(in alloc; "good")?),
+        Err(error) => Ok(format!(in alloc; "{error}")?),
     }
+}
+
+#[test]
+fn a_token_is_good_until_its_expiry(rt: HostRuntime) -> Result<(), Fail> {
+    let signed = sign(&site(rt.alloc()), TOKEN_LIFE_MS);
+    assert_eq!(rt; signed.as_slice(), TOKEN.as_slice());
+    for (at, words) in [
+        (0, "good"),
+        (TOKEN_LIFE_MS - 1, "good"),
+        (TOKEN_LIFE_MS, "the token ended at 3600000 ms"),
+        (u64::MAX, "the token ended at 3600000 ms"),
+    ] {
+        assert_eq!(rt; answer(rt.alloc(), at)?.as_str(), words, "at {at}");
+    }
+    Ok(())
+}
+
+fn is_bad(site: &Site, text: &[u8]) -> bool {
+    check_token(site, text, 0) == Err(TokenError::BadToken)
 }
 
 #[test]
 fn a_text_with_one_byte_changed_is_no_token(rt: HostRuntime) {
     let site = site(rt.alloc());
-    for place in 0..86 {
+    for place in 0..TOKEN_BYTES {
         // The second one turns a lower-case letter into its upper case.
         for change in [1, 0x20] {
             let mut text = *TOKEN;
             text[place] ^= change;
-            assert_eq!(rt;
-                check_token(&site, &text, 0),
-                Err(TokenError::BadToken),
-                "place {place}"
-            );
+            assert!(rt; is_bad(&site, &text), "place {place}");
         }
     }
 }
@@ -105,7 +116,7 @@ fn other_texts_are_no_tokens(rt: HostRuntime) {
         b"dkv1.000000000036EE80.8c31b0f3c47d2a4f42055c8c4774a556c6eb30d1784aada1db49a531dec9139f",
         b"dkv1.000000000036ee80.8C31B0F3C47D2A4F42055C8C4774A556C6EB30D1784AADA1DB49A531DEC9139F",
     ] {
-        assert_eq!(rt; check_token(&site, text, 0), Err(TokenError::BadToken));
+        assert!(rt; is_bad(&site, text), "{text:?}");
     }
 }
 
@@ -116,7 +127,7 @@ fn a_token_of_another_site_is_no_token(rt: HostRuntime) {
     let mut other_secret = site(rt.alloc());
     other_secret.secret[31] = 1;
     for site in [&other_id, &other_secret] {
-        assert_eq!(rt; check_token(site, TOKEN, 0), Err(TokenError::BadToken));
-        assert_eq!(rt; check_token(site, &sign(site, 1), 0), Ok(()));
+        assert!(rt; is_bad(site, TOKEN));
+        assert!(rt; check_token(site, &sign(site, 1), 0).is_ok());
     }
 }

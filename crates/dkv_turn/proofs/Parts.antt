@@ -1,5 +1,5 @@
 -- Lemmas on lists, truth values, stages and views, which no rule is part of.
-use Rattle.std.proofs.Common.{◌≡◌, ℕ, zero, suc, ◌+◌, ◌<◌, ◌≤◌, ◌⊎◌, Bool, true, false, cond, List, [], ◌∷◌, ◌++◌, length, set, sym, refl, ap, ◌∙◌, subst, inl, inr, ⊎_elim, arith, max, ◌||◌, eq-eqb, ne_eqb, lt_of_not-le, le_of_lt, drop_of_length-le, append-nil}
+use Rattle.std.proofs.Common.{◌≡◌, ℕ, zero, suc, ◌+◌, ◌<◌, ◌≤◌, ◌⊎◌, Bool, true, false, cond, List, [], ◌∷◌, ◌++◌, length, set, sym, refl, ap, ◌∙◌, subst, inl, inr, ⊎_elim, arith, max, ◌||◌, eq-eqb, ne_eqb, lt_of_not-le, le_of_lt, drop_of_length-le, append-nil, Option}
 use mathlib.Core.Logic.{dite}
 use mathlib.Core.Option.{some, some-injective, some-ne-none}
 use mathlib.Core.List.{IsPrefix}
@@ -13,9 +13,9 @@ use Rattle.dkv_turn.specs.declared.view.View.{View}
 use Rattle.dkv_turn.specs.Weights.{total, below}
 use Rattle.dkv_turn.specs.Histories.{longer}
 use Rattle.dkv_turn.specs.Views.{gone_of, IsHolding, number_of}
-use Rattle.dkv_turn.specs.Rule.{stage_weight, StandsAt}
+use Rattle.dkv_turn.specs.Rule.{stage_weight, StandsAt, HasNoted}
 use Rattle.dkv_turn.proofs.Sums.{only, below-only}
-use Rattle.dkv_turn.proofs.Prefixes.{prefix_shorter}
+use Rattle.dkv_turn.proofs.Laws.{prefix_shorter}
 
 module _ {A : Type 0} where
   pub at_bound : (l : List A) (i : ℕ) (a : A) → get_elem? l i ≡ some a → i < length l
@@ -125,6 +125,10 @@ module _ {I : Type 0} where
   stands_anywhere s s' log log' loan loan' Idle h k = tt
   stands_anywhere s s' log log' loan loan' (Waiting n) h k = tt
   stands_anywhere s s' log log' loan loan' (Holding n xs l o) h k = absurd (h tt)
+
+  pub held_is : (s : ℕ) (log : List I) (loan : ℕ) {t : Stage I} {k : ℕ} {xs : List I} {l : ℕ} {o : Option ℕ} → t ≡ Holding k xs l o
+      → StandsAt s log loan t → (k ≡ s) × (xs ≡ log) × (l ≡ loan) × HasNoted loan o
+  held_is s log loan e h = subst (StandsAt s log loan) e h
 
   pub numbers_seen : (f : ℕ → ℕ) (b : Bool) (n : ℕ) (xs ys : List I) (gone : List (Gone I)) → total (λ (g : Gone I). f g.who) (cond b [] (gone_of n xs ∷ gone)) ≡ total (λ (g : Gone I). f g.who) (cond b [] (gone_of n ys ∷ gone))
   numbers_seen f true n xs ys gone = refl

@@ -32,6 +32,11 @@ module _ {V I G : Type 0} where
   abbrev pub asked : {c : _} → Pass V I G c → ℕ
   asked p = p.counts.asked
 
+  -- the greatest moment that it, or one that was joined into it, handed in to be raised
+  abbrev pub handed : {c : _} → Pass V I G c → ℕ
+  handed p = p.seat.me.0.handed
+
+  -- its loan, of which 0 means none
   abbrev pub loan : {c : _} → Pass V I G c → ℕ
   loan p = p.seat.me.0.loan
 
@@ -43,6 +48,7 @@ module _ {V I G : Type 0} where
   abbrev pub left : {c : _} → Pass V I G c → ℕ
   left p = p.seat.me.0.left
 
+  -- the ground of its turn's value
   abbrev pub grounds : {c : _} → Pass V I G c → Option G
   grounds p = p.seat.me.0.grounds
 
@@ -68,6 +74,7 @@ module _ {V I G : Type 0} where
     pub who : who q ≡ who p
     pub moment : moment q ≡ moment p
     pub asked : asked q ≡ asked p
+    pub handed : handed q ≡ handed p
     pub gone : gone q ≡ gone p
     pub left : left q ≡ left p
     pub marked : (view q).marked ≡ (view p).marked

@@ -5,6 +5,7 @@ use Rattle.dkv_turn.specs.declared.view.View.{View}
 use Rattle.dkv_turn.specs.Views.{spent_view}
 
 module _ {I G : Type 0} where
+  -- the view that rests, or that of a spent pass where there is none
   abbrev pub shown : List (View I G) → View I G
   shown [] = spent_view
   shown (v ∷ vs) = v

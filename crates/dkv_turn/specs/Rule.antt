@@ -4,7 +4,7 @@ use mathlib.Core.Option.{some}
 use mathlib.Core.List.{IsPrefix}
 use lib.ListN.{get_elem?}
 use Rattle.atomic_table.specs.Table.{State}
-use Rattle.dkv_base.specs.State.{max_moment}
+use Rattle.dkv_base.specs.declared.moments.TheConstants.{MAX_MOMENT}
 use Rattle.dkv_turn.specs.Weights.{total, below}
 use Rattle.dkv_turn.specs.Histories.{NoneSince}
 use Rattle.dkv_turn.specs.Views.{most_passes, IsHolding, shares}
@@ -45,6 +45,7 @@ module _ {I : Type 0} where
   stage_weight f (Holding k xs l n) = f k
 
 module _ {I G : Type 0} where
+  -- the weight of the ticket number that it waits or holds with
   abbrev pub ticket : (ℕ → ℕ) → View I G → ℕ
   ticket f v = stage_weight f v.stage
 
@@ -52,23 +53,30 @@ module _ {I G : Type 0} where
   abbrev pub numbers : (ℕ → ℕ) → View I G → ℕ
   numbers f v = total (λ (g : Gone I). f g.who) (shares v)
 
+  -- 1 where it has the mark
   abbrev pub mark : View I G → ℕ
   mark v = cond v.marked 1 0
 
+  -- its loan
   abbrev pub lent_to : View I G → ℕ
   lent_to v = v.loan
+
+  -- a view was handed in a moment that is no less
+  abbrev pub HandedIn : ℕ → List (View I G) → Type 0
+  HandedIn now views = (j : ℕ) × (v : View I G) × (get_elem? views j ≡ some v) × (now ≤ v.handed)
 
   -- what is true of one view, where there are count of them
   pub record Knows (carries : I → ℕ) (base : G) (served : ℕ) (log : List I) (now loan count : ℕ) (v : View I G) : Type 0 where
     pub shares_closed : (k : ℕ) (g : Gone I) → get_elem? (shares v) k ≡ some g → Closed carries log g
     pub begins : IsPrefix v.seen log
+    pub within : length v.within ≤ length v.seen
     pub stands : StandsAt served log loan v.stage
     pub gives : v.marked ≡ true → v.left + count ≡ most_passes
     pub gives_none : v.marked ≡ false → v.left ≡ 0
     pub at_most : v.at ≤ now
     pub lends : (v.loan ≡ 0) ⊎ (v.loan ≡ loan)
     pub grounded : v.spent ≡ false → v.grounds ≡ Some base
-    pub rests : v.spent ≡ true → (v.stage ≡ Idle) × (v.loan ≡ 0)
+    pub rests : v.spent ≡ true → (v.stage ≡ Idle) × (v.loan ≡ 0) × (v.handed ≡ 0)
 
 module _ {I G V : Type 0} (carries : I → ℕ) (items : V → List I) (lent : V → ℕ) (grounds : V → G) (base : G) where
   -- the value is at home, with the whole history, the loan and the ground
@@ -93,7 +101,8 @@ module _ {I G V : Type 0} (carries : I → ℕ) (items : V → List I) (lent : V
     pub home : mathlib.Core.Option.Option (Option V)
     pub words_are : words ≡ (drawn % ticket_cycle) ∷ (served % ticket_cycle) ∷ length log ∷ now ∷ loan ∷ []
     pub homes_are : homes ≡ home ∷ []
-    pub capped : now ≤ max_moment
+    pub capped : now ≤ MAX_MOMENT
+    pub handed_in : HandedIn now views
     pub short : length log < history_bound
     pub few : length views ≤ most_passes
     pub queue : (f : ℕ → ℕ) → total (ticket f) views + below f served ≡ below f drawn
@@ -104,5 +113,6 @@ module _ {I G V : Type 0} (carries : I → ℕ) (items : V → List I) (lent : V
     pub each : (j : ℕ) (v : View I G) → get_elem? views j ≡ some v → Knows carries base served log now loan (length views) v
     pub at_home : ((j : ℕ) (v : View I G) → get_elem? views j ≡ some v → ¬ IsHolding v.stage) → Home log loan home
 
+  -- the rule, of a table
   abbrev pub KeptIn : State (Option V) (View I G) → Type 0
   KeptIn s = Kept s.words s.homes s.views

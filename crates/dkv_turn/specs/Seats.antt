@@ -10,9 +10,11 @@ abbrev pub FollowsLoan : ℕ → ℕ → ℕ → ℕ → Type 0
 FollowsLoan old before now new = (before ≡ old → new ≡ now) × (before ≢ old → new ≡ old)
 
 module _ {I G V : Type 0} where
+  -- it is there, and neither waits nor has the turn
   abbrev pub IsIdle : Seat (Option V) (View I G) → Type 0
   IsIdle s = (s.me.0.spent ≡ false) × (s.me.0.stage ≡ Idle) × (s.me.1 ≡ [])
 
+  -- it waits with a ticket of this number
   abbrev pub WaitsFor : Seat (Option V) (View I G) → ℕ → Type 0
   WaitsFor s number = (k : ℕ) × (number ≡ k % ticket_cycle) × (s.me.0.spent ≡ false) × (s.me.0.stage ≡ Waiting k) × (s.me.1 ≡ [])
 
@@ -26,6 +28,7 @@ module _ {I G V : Type 0} where
     pub seen : t.me.0.seen ≡ s.me.0.seen
     pub who : t.me.0.who ≡ s.me.0.who
     pub at : t.me.0.at ≡ s.me.0.at
+    pub handed : t.me.0.handed ≡ s.me.0.handed
     pub gone : t.me.0.gone ≡ s.me.0.gone
     pub left : t.me.0.left ≡ s.me.0.left
     pub marked : t.me.0.marked ≡ s.me.0.marked

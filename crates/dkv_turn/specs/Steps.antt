@@ -1,13 +1,16 @@
 -- What each step on the table tells: of the step, the seat before, the number found and the seat after.
 use Rattle.std.specs.Prelude.{◌≡◌, ◌≢◌, ℕ, ◌%◌, ◌<◌, ◌≤◌, max, List, [], ◌∷◌, length, Option, Some}
 use mathlib.Core.List.{IsPrefix}
+use mathlib.Core.Option.{some}
+use lib.ListN.{get_elem?}
 use Rattle.atomic_table.specs.Table.{Me, Step, rest}
-use Rattle.dkv_base.specs.State.{max_moment}
+use Rattle.dkv_base.specs.declared.moments.TheConstants.{MAX_MOMENT}
 use Rattle.dkv_turn.specs.declared.view.Stage.TheVariants.{Idle, Waiting}
 use Rattle.dkv_turn.specs.declared.view.View.{View}
 use Rattle.dkv_turn.specs.Histories.{NoneSince}
-use Rattle.dkv_turn.specs.Rule.{ticket_cycle}
-use Rattle.dkv_turn.specs.Views.{with_stage, with_seen, with_moment, with_turn, with_note, with_loan, grown_view, number_of, log_of, loan_of}
+use Rattle.dkv_turn.specs.declared.view.Gone.{Gone}
+use Rattle.dkv_turn.specs.Rule.{ticket_cycle, Closed}
+use Rattle.dkv_turn.specs.Views.{with_stage, with_seen, with_moment, with_handed, with_turn, with_note, with_loan, grown_view, number_of, log_of, loan_of, shares}
 
 -- a seat: its view, and the slots that it holds
 abbrev pub Sat : Type 0 → Type 0 → Type 0 → Type 0
@@ -43,11 +46,11 @@ module _ {I G V : Type 0} where
   abbrev pub PassedOn : Step (Option V) → Sat V I G → ℕ → Sat V I G → Type 0
   PassedOn st m r n = n ≡ (with_stage m.0 Idle, rest m.1)
 
-  -- its moment is the greater of the one found, which is no less than its own was, and the step's
+  -- its moment is the greater of the one found, which is no less than its own was, and the step's, which it handed in
   pub record Raised (st : Step (Option V)) (m : Sat V I G) (r : ℕ) (n : Sat V I G) : Type 0 where
-    pub seat : n ≡ (with_moment m.0 (max r st.first), m.1)
+    pub seat : n ≡ (with_moment (with_handed m.0 st.first) (max r st.first), m.1)
     pub rises : m.0.at ≤ r
-    pub most : r ≤ max_moment
+    pub most : r ≤ MAX_MOMENT
 
   -- it found the loan of the value that it holds, and noted it
   abbrev pub Noted : Step (Option V) → Sat V I G → ℕ → Sat V I G → Type 0
@@ -56,3 +59,15 @@ module _ {I G V : Type 0} where
   -- the loan is the step's number
   abbrev pub Changed : Step (Option V) → Sat V I G → ℕ → Sat V I G → Type 0
   Changed st m r n = n ≡ (with_loan m.0 st.first, m.1)
+
+  -- nothing changes, and there is a history that begins with all that was seen and has no items of its numbers but those seen under them
+  pub record Recalled (carries : I → ℕ) (m n : Sat V I G) : Type 0 where
+    pub log : List I
+    pub seat : n ≡ m
+    pub begins : IsPrefix m.0.seen log
+    pub within : length m.0.within ≤ length m.0.seen
+    pub shares_closed : (k : ℕ) (g : Gone I) → get_elem? (shares m.0) k ≡ some g → Closed carries log g
+
+  -- it found what the rule has of it
+  abbrev pub Recalls : (I → ℕ) → Step (Option V) → Sat V I G → ℕ → Sat V I G → Type 0
+  Recalls carries st m r n = Recalled carries m n

@@ -15,6 +15,7 @@ module _ {I : Type 0} where
   abbrev pub gone_of : ℕ → List I → Gone I
   gone_of n xs = record { who = n; seen = xs }
 
+  -- it has the turn
   abbrev pub IsHolding : Stage I → Type 0
   IsHolding Idle = ⊥
   IsHolding (Waiting k) = ⊥
@@ -47,24 +48,31 @@ module _ {I : Type 0} where
 module _ {I G : Type 0} where
   -- a view that knows nothing any more, since its pass was joined into another
   abbrev pub spent_view : View I G
-  spent_view = record { spent = true; stage = Idle; seen = []; who = 0; at = 0; loan = 0; gone = []; left = 0; marked = false; grounds = None }
+  spent_view = record { spent = true; stage = Idle; seen = []; within = []; who = 0; at = 0; handed = 0; loan = 0; gone = []; left = 0; marked = false; grounds = None }
 
   -- the view of the first pass, which has all other numbers to give away
   abbrev pub first_view : G → View I G
-  first_view g = record { spent = false; stage = Idle; seen = []; who = 0; at = 0; loan = 0; gone = []; left = 4294967295; marked = true; grounds = Some g }
+  first_view g = record { spent = false; stage = Idle; seen = []; within = []; who = 0; at = 0; handed = 0; loan = 0; gone = []; left = 4294967295; marked = true; grounds = Some g }
 
-  -- its number, and those of the passes that were joined into it, each with what was last seen under it
+  -- its number, and those of the passes that were joined into it, each with a history that has all its items
   abbrev pub shares : View I G → List (Gone I)
-  shares v = cond v.spent [] (gone_of v.who v.seen ∷ v.gone)
+  shares v = cond v.spent [] (gone_of v.who v.within ∷ v.gone)
 
+  -- at another stage
   abbrev pub with_stage : View I G → Stage I → View I G
   with_stage v t = record v { stage = t }
 
+  -- having seen this history
   abbrev pub with_seen : View I G → List I → View I G
   with_seen v xs = record v { seen = xs }
 
+  -- having been given this moment
   abbrev pub with_moment : View I G → ℕ → View I G
   with_moment v t = record v { at = t }
+
+  -- having handed in this moment
+  abbrev pub with_handed : View I G → ℕ → View I G
+  with_handed v t = record v { handed = max v.handed t }
 
   -- after a split: one number fewer to give away
   abbrev pub giver_view : View I G → View I G
@@ -72,19 +80,19 @@ module _ {I G : Type 0} where
 
   -- the pass that was split off: the next number, what the giver had seen, its moment and its ground
   abbrev pub given_view : View I G → View I G
-  given_view v = record { spent = false; stage = Idle; seen = v.seen; who = 4294967296 - v.left; at = v.at; loan = 0; gone = []; left = 0; marked = false; grounds = v.grounds }
+  given_view v = record { spent = false; stage = Idle; seen = v.seen; within = []; who = 4294967296 - v.left; at = v.at; handed = 0; loan = 0; gone = []; left = 0; marked = false; grounds = v.grounds }
 
   -- the second is joined into the first
   abbrev pub joined_view : View I G → View I G → View I G
-  joined_view v w = record v { seen = longer v.seen w.seen; at = max v.at w.at; gone = (v.gone ++ w.gone) ++ gone_of w.who w.seen ∷ []; left = max v.left w.left; marked = v.marked || w.marked }
+  joined_view v w = record v { seen = longer v.seen w.seen; at = max v.at w.at; handed = max v.handed w.handed; gone = (v.gone ++ w.gone) ++ gone_of w.who w.seen ∷ []; left = max v.left w.left; marked = v.marked || w.marked }
 
   -- it got the turn, over this history and this loan, and has noted nothing
   abbrev pub with_turn : View I G → List I → ℕ → View I G
   with_turn v xs l = with_stage v (Holding (number_of v.stage) xs l None)
 
-  -- the history that it holds becomes that of the value in the slot, and it has seen it
+  -- the history that it holds becomes that of the value in the slot, it has seen it, and all its items are within
   abbrev pub grown_view : View I G → List I → View I G
-  grown_view v xs = with_seen (with_stage v (Holding (number_of v.stage) xs (loan_of v.stage) (noted_of v.stage))) xs
+  grown_view v xs = record v { seen = xs; within = xs; stage = Holding (number_of v.stage) xs (loan_of v.stage) (noted_of v.stage) }
 
   -- it noted the loan
   abbrev pub with_note : View I G → ℕ → View I G

@@ -18,6 +18,7 @@ module _ {V I G : Type 0} where
   abbrev pub made_with : Turn V I G → V
   made_with t = t.table.shared.key.value
 
+  -- the value is that of this turn
   abbrev pub IsHeldOf : Turn V I G → Held V I G → Type 0
   IsHeldOf t h = h.of.value.table_id ≡ turn_id t
 

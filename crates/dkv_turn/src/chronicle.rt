@@ -1,3 +1,4 @@
+//! The trait of a value that a turn guards.
 ghost use Rattle.std.specs.Prelude.{◌≡◌, ◌<◌, ◌^◌, ℕ, List, length};
 
 /// A value that keeps a list of items, to which passes add. It says its length and its loan at once, without memory.

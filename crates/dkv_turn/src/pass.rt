@@ -1,6 +1,8 @@
 //! What one caller knows of a turn.
 ghost use Rattle.std.specs.Prelude.{◌≡◌, ◌≤◌, length, max};
-ghost use Rattle.dkv_base.specs.State.{max_moment, taken_moment};
+ghost use Rattle.dkv_base.specs.declared.moments.TheConstants.{MAX_MOMENT};
+ghost use Rattle.dkv_base.specs.Moments.{capped_moment};
+ghost use Rattle.dkv_turn.specs.Counted.{IsCountOf, IsTimed};
 ghost use Rattle.dkv_turn.specs.Views.{loan_of};
 ghost use Rattle.dkv_turn.specs.Seats.{IsIdle};
 
@@ -19,8 +21,8 @@ pub struct Pass<V: Chronicle> {
     ghost counted: { counts.seen ≡ length seat.me.0.seen },
     ghost numbered: { counts.who ≡ seat.me.0.who },
     ghost owned: { counts.left ≡ seat.me.0.left },
-    ghost timed: { seat.me.0.at ≤ max_moment },
-    ghost asked_timed: { counts.asked ≤ max_moment },
+    ghost timed: { seat.me.0.at ≤ MAX_MOMENT },
+    ghost asked_timed: { counts.asked ≤ MAX_MOMENT },
     ghost noted: { lent ≡ loan_of seat.me.0.stage },
 }
 
@@ -55,15 +57,16 @@ impl<V: Chronicle> Pass<V> {
     /// The greatest moment that its caller handed in, in milliseconds.
     pub fn asked(&self) -> u64
         ensures asked { result ≡ asked self.now }
-        ensures timed { (asked self.now ≤ max_moment) × (moment self.now ≤ max_moment) }
+        ensures timed { (asked self.now ≤ MAX_MOMENT) × (moment self.now ≤ MAX_MOMENT) }
     {
         self.counts.asked
     }
 
     /// Notes a moment that its caller hands in, in milliseconds. One above the last moment is taken as that.
     pub fn ask(&mut self, at: u64)
-        ensures asked { asked self.new ≡ max (asked self.old) (taken_moment at) }
-        ensures others { (view self.new ≡ view self.old) × (pass_turn self.new ≡ pass_turn self.old) }
+        ensures asked { asked self.new ≡ max (asked self.old) (capped_moment at) }
+        ensures others { (view self.new ≡ view self.old)
+            × (pass_turn self.new ≡ pass_turn self.old) }
         ensures outside { IsOutside self.old → IsOutside self.new }
     {
         self.counts = self.counts.ask(at);
@@ -82,8 +85,8 @@ impl<V: Chronicle> Pass<V> {
     }
 
     pub(crate) fn awake(seat: Seat<Option<V>, View<V::Item, V::Ground>>, counts: Counts) -> Pass<V>
-        requires counts { (counts.seen ≡ length seat.me.0.seen) × (counts.who ≡ seat.me.0.who) × (counts.left ≡ seat.me.0.left) }
-        requires timed { (seat.me.0.at ≤ max_moment) × (counts.asked ≤ max_moment) }
+        requires counts { IsCountOf counts seat.me.0 }
+        requires timed { IsTimed counts seat.me.0 }
         requires idle { IsIdle seat }
         ensures { (result.seat ≡ seat) × (result.counts ≡ counts) }
     {
@@ -96,8 +99,8 @@ impl<V: Chronicle> Pass<V> {
 
     pub(crate) fn into_parts(self) -> (Seat<Option<V>, View<V::Item, V::Ground>>, Counts)
         ensures parts { (result.0 ≡ self.seat) × (result.1 ≡ self.counts) }
-        ensures counted { (result.1.seen ≡ length result.0.me.0.seen) × (result.1.who ≡ result.0.me.0.who) × (result.1.left ≡ result.0.me.0.left) }
-        ensures timed { (result.0.me.0.at ≤ max_moment) × (result.1.asked ≤ max_moment) }
+        ensures counted { IsCountOf result.1 result.0.me.0 }
+        ensures timed { IsTimed result.1 result.0.me.0 }
     {
         let Self {
             seat,

@@ -1,6 +1,8 @@
 //! A pass at rest, in a type that does not name the value.
 ghost use Rattle.std.specs.Prelude.{◌≡◌, ◌≤◌, length, max};
-ghost use Rattle.dkv_base.specs.State.{max_moment, taken_moment};
+ghost use Rattle.dkv_base.specs.declared.moments.TheConstants.{MAX_MOMENT};
+ghost use Rattle.dkv_base.specs.Moments.{capped_moment};
+ghost use Rattle.dkv_turn.specs.Counted.{IsCountOf, IsTimed};
 ghost use Rattle.dkv_turn.specs.Rests.{shown, RestsThere};
 
 use crate::chronicle::Chronicle;
@@ -16,8 +18,8 @@ pub struct Rest<I, G> {
     ghost counted: { counts.seen ≡ length (shown badge.views).seen },
     ghost numbered: { counts.who ≡ (shown badge.views).who },
     ghost owned: { counts.left ≡ (shown badge.views).left },
-    ghost timed: { (shown badge.views).at ≤ max_moment },
-    ghost asked_timed: { counts.asked ≤ max_moment },
+    ghost timed: { (shown badge.views).at ≤ MAX_MOMENT },
+    ghost asked_timed: { counts.asked ≤ MAX_MOMENT },
 }
 
 impl<I, G> Drop for Rest<I, G> {
@@ -51,15 +53,16 @@ impl<I, G> Rest<I, G> {
     /// The greatest moment that its caller handed in, in milliseconds.
     pub fn asked(&self) -> u64
         ensures asked { result ≡ asked_of self.now }
-        ensures timed { (asked_of self.now ≤ max_moment) × ((view_of self.now).at ≤ max_moment) }
+        ensures timed { (asked_of self.now ≤ MAX_MOMENT) × ((view_of self.now).at ≤ MAX_MOMENT) }
     {
         self.counts.asked
     }
 
     /// Notes a moment that its caller hands in, in milliseconds. One above the last moment is taken as that.
     pub fn ask(&mut self, at: u64)
-        ensures asked { asked_of self.new ≡ max (asked_of self.old) (taken_moment at) }
-        ensures others { (view_of self.new ≡ view_of self.old) × (turn_of self.new ≡ turn_of self.old) }
+        ensures asked { asked_of self.new ≡ max (asked_of self.old) (capped_moment at) }
+        ensures others { (view_of self.new ≡ view_of self.old)
+            × (turn_of self.new ≡ turn_of self.old) }
         ensures there { IsThere self.old → IsThere self.new }
     {
         self.counts = self.counts.ask(at);
@@ -78,8 +81,8 @@ impl<I, G> Rest<I, G> {
     }
 
     pub(crate) fn laid(badge: Badge<View<I, G>>, counts: Counts) -> Rest<I, G>
-        requires counts { (counts.seen ≡ length (shown badge.views).seen) × (counts.who ≡ (shown badge.views).who) × (counts.left ≡ (shown badge.views).left) }
-        requires timed { ((shown badge.views).at ≤ max_moment) × (counts.asked ≤ max_moment) }
+        requires counts { IsCountOf counts (shown badge.views) }
+        requires timed { IsTimed counts (shown badge.views) }
         ensures { (result.badge ≡ badge) × (result.counts ≡ counts) }
     {
         Rest { badge, counts }

@@ -1,6 +1,6 @@
-//! The rule of the table, and what each of its eleven steps tells. The eleventh, the exchange in the slot, is the table's own.
+//! The rule of the table, and what each of its steps tells. The exchange in the slot is the table's own.
 ghost use Rattle.dkv_turn.specs.Rule.{KeptIn};
-ghost use Rattle.dkv_turn.specs.Steps.{Drew, Looked, Learned, Added, PassedOn, Raised, Noted, Changed};
+ghost use Rattle.dkv_turn.specs.Steps.{Drew, Looked, Learned, Added, PassedOn, Raised, Noted, Changed, Recalls};
 ghost use Rattle.dkv_turn.specs.Views.{first_view, spent_view, giver_view, given_view, joined_view};
 
 use crate::chronicle::Chronicle;
@@ -82,6 +82,15 @@ pub struct Raise;
 
 impl<V, I, G> Play<Option<V>, View<I, G>> for Raise {
     ghost then = { Raised };
+}
+
+/// Loads the word ticket, and asks what the rule has of the pass.
+pub struct Recall<V> {
+    of: PhantomData<V>,
+}
+
+impl<V: Chronicle> Play<Option<V>, View<V::Item, V::Ground>> for Recall<V> {
+    ghost then = { Recalls V.carries };
 }
 
 /// Loads the word loan.

@@ -1,9 +1,9 @@
 //! The lock, and the value that it lends.
 ghost use Rattle.std.specs.Prelude.{◌≡◌, ◌+◌, ◌<◌, ◌≤◌, ◌⊎◌, ◌≢◌, [], Some, IsOk, IfOk, IfErr, length, max, ℕ};
 ghost use mathlib.Core.List.{IsPrefix};
-ghost use Rattle.dkv_base.specs.State.{max_moment, taken_moment};
+ghost use Rattle.dkv_base.specs.Moments.{capped_moment};
 ghost use Rattle.dkv_turn.specs.Histories.{mine, NoneSince, AddsOwn};
-ghost use Rattle.dkv_turn.specs.Views.{first_view, giver_view, given_view, joined_view, with_moment};
+ghost use Rattle.dkv_turn.specs.Views.{first_view, giver_view, given_view, joined_view, with_moment, with_handed};
 ghost use Rattle.dkv_turn.specs.Seats.{WaitsFor, HoldsTurn, KeepsSeat, FollowsLoan};
 ghost use Rattle.dkv_turn.specs.Steps.{Got};
 ghost use Rattle.dkv_turn.specs.Ends.{Ends};
@@ -11,7 +11,7 @@ ghost use Rattle.dkv_turn.specs.Ends.{Ends};
 use crate::chronicle::Chronicle;
 use crate::counts::Counts;
 use crate::pass::Pass;
-use crate::steps::{Add, Change, Cut, Draw, Glue, Learn, Look, Note, Order, PassOn, Raise};
+use crate::steps::{Add, Change, Cut, Draw, Glue, Learn, Look, Note, Order, PassOn, Raise, Recall};
 use crate::view::View;
 use atomic_table::{Refused, Seat, Table};
 use dkv_base::{MAX_MOMENT, NoMemory};
@@ -56,7 +56,8 @@ impl<V: Chronicle> Turn<V> {
     pub fn new(alloc: Global, value: V) -> Result<(Turn<V>, Pass<V>), (V, NoMemory)>
         requires empty { V.items value ≡ [] }
         requires none_lent { V.lent value ≡ 0 }
-        ensures pass { IfOk result (λ r. IsOf V.grounds r.0 r.1 × IsOutside r.1 × (view r.1 ≡ first_view (V.grounds value)) × (asked r.1 ≡ 0)) }
+        ensures pass { IfOk result (λ r. IsOf V.grounds r.0 r.1 × IsOutside r.1
+            × (view r.1 ≡ first_view (V.grounds value)) × (asked r.1 ≡ 0)) }
         ensures grounds { IfOk result (λ r. ground_of V.grounds r.0 ≡ V.grounds value) }
         ensures err { IfErr result (λ r. r.0 ≡ value) }
     {
@@ -95,7 +96,8 @@ impl<V: Chronicle> Turn<V> {
         ensures seen { seen pass.new ≡ V.items result.value }
         ensures begins { IsPrefix (seen pass.old) (seen pass.new) }
         ensures others { NoneSince V.carries (who pass.old) (seen pass.old) (seen pass.new) }
-        ensures mine { mine V.carries (who pass.old) (seen pass.new) ≡ mine V.carries (who pass.old) (seen pass.old) }
+        ensures mine { mine V.carries (who pass.old) (seen pass.new)
+            ≡ mine V.carries (who pass.old) (seen pass.old) }
         ensures grounds { V.grounds result.value ≡ ground_of V.grounds self.now }
         ensures entered { entered_loan pass.new ≡ V.lent result.value }
         ensures lent { 0 < loan pass.old → V.lent result.value ≡ loan pass.old }
@@ -103,7 +105,8 @@ impl<V: Chronicle> Turn<V> {
         let shared = &self.table.shared;
         let number = shared.fetch_add::<Draw>(&mut pass.seat, TICKET, 1);
         self.await_turn(rt, &mut pass.seat, number);
-        pass.counts.seen = shared.load::<Learn>(&mut pass.seat, COUNT);
+        let count = shared.load::<Learn>(&mut pass.seat, COUNT);
+        pass.counts.seen = count;
         pass.lent = shared.load::<Note>(&mut pass.seat, LOAN);
         let value = shared.exchange(&mut pass.seat, 0, None).unwrap();
         let of = Snapshot::of(&pass.seat);
@@ -117,7 +120,8 @@ impl<V: Chronicle> Turn<V> {
         requires inside { IsInside pass.old }
         requires grounds { V.grounds held.value ≡ ground_of V.grounds self.now }
         requires items { AddsOwn V.carries (who pass.old) (seen pass.old) (V.items held.value) }
-        requires lent { (V.lent held.value ≡ entered_loan pass.old) ⊎ (entered_loan pass.old ≡ loan pass.old) }
+        requires lent { (V.lent held.value ≡ entered_loan pass.old)
+            ⊎ (entered_loan pass.old ≡ loan pass.old) }
         ensures own { IsOf V.grounds self.now pass.new }
         ensures outside { IsOutside pass.new }
         ensures same { Same pass.old pass.new }
@@ -150,10 +154,12 @@ impl<V: Chronicle> Turn<V> {
         requires outside { IsOutside pass.old }
         ensures own { IsOf V.grounds self.now pass.new }
         ensures outside { IsOutside pass.new }
-        ensures view { view pass.new ≡ with_moment (view pass.old) result }
+        ensures view { view pass.new
+            ≡ with_moment (with_handed (view pass.old) (capped_moment at)) result }
         ensures asked { asked pass.new ≡ asked pass.old }
-        ensures greater { (kept : ℕ) × (result ≡ max kept (taken_moment at)) × (moment pass.old ≤ kept) }
-        ensures most { result ≤ max_moment }
+        ensures greater { (kept : ℕ) × (result ≡ max kept (capped_moment at))
+            × (moment pass.old ≤ kept) }
+        ensures most { result ≤ MAX_MOMENT }
     {
         let at = at.min(MAX_MOMENT);
         self.table
@@ -172,7 +178,8 @@ impl<V: Chronicle> Turn<V> {
         ensures view { view pass.new ≡ giver_view (view pass.old) }
         ensures asked { asked pass.new ≡ asked pass.old }
         ensures made { IsOk result }
-        ensures given { IfOk result (λ p. IsOf V.grounds self.now p × IsOutside p × (view p ≡ given_view (view pass.old)) × (asked p ≡ 0)) }
+        ensures given { IfOk result (λ p. IsOf V.grounds self.now p × IsOutside p
+            × (view p ≡ given_view (view pass.old)) × (asked p ≡ 0)) }
     {
         let seat = self.table.shared.split_seat::<Cut>(&mut pass.seat);
         let counts = Counts {
@@ -194,11 +201,17 @@ impl<V: Chronicle> Turn<V> {
         ensures outside { IsOutside keep.new }
         ensures view { view keep.new ≡ joined_view (view keep.old) (view other) }
         ensures begins { IsPrefix (seen keep.old) (seen keep.new) }
-        ensures longer { length (seen keep.new) ≡ max (length (seen keep.old)) (length (seen other)) }
+        ensures begins_other { IsPrefix (seen other) (seen keep.new) }
+        ensures others { NoneSince V.carries (who keep.old) (seen keep.old) (seen keep.new) }
+        ensures longer { length (seen keep.new)
+            ≡ max (length (seen keep.old)) (length (seen other)) }
         ensures asked { asked keep.new ≡ max (asked keep.old) (asked other) }
     {
         let (seat, counts) = other.into_parts();
-        self.table.shared.join_seat::<Glue>(&mut keep.seat, seat);
+        let shared = &self.table.shared;
+        shared.load::<Recall<V>>(&mut keep.seat, TICKET);
+        shared.join_seat::<Glue>(&mut keep.seat, seat);
+        shared.load::<Recall<V>>(&mut keep.seat, TICKET);
         keep.counts.left = keep.counts.left.max(counts.left);
         keep.counts.seen = keep.counts.seen.max(counts.seen);
         keep.counts.asked = keep.counts.asked.max(counts.asked);

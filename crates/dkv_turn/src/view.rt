@@ -21,10 +21,14 @@ pub struct View<I, G> {
     pub stage: Stage<I>,
     /// The history that it has seen.
     pub seen: LinkedList<I>,
+    /// A beginning of that history, which has all items of its number.
+    pub within: LinkedList<I>,
     /// Its number, which the items carry that it adds.
     pub who: u64,
     /// The greatest moment that it was given, in milliseconds.
     pub at: u64,
+    /// The greatest moment that it, or one that was joined into it, handed in to be raised, in milliseconds.
+    pub handed: u64,
     /// Its loan, of which 0 means none.
     pub loan: u64,
     /// The passes that were joined into it, directly or through others.

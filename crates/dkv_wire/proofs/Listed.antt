@@ -18,8 +18,8 @@ some_is a b e = cc
 one_more : (at : ℕ) (bytes : List ℕ) (number : ℕ) (held : Content) (rest : List ℕ) (items : List Item) → Front bytes number held rest → AreFields (at + (length bytes - length rest)) rest items
     → AreFields at bytes (item_of at (at + (length bytes - length rest)) (number, held, rest) ∷ items)
 one_more at bytes number held rest items front are =
-    let span : at + (length bytes - length rest) ≡ at + length front.head = omega (arith, ap length front.parts, length-append front.head rest) in
-    (front.head, rest, front.parts, refl, span, front.is, subst (λ (k : ℕ). AreFields k rest items) span are)
+    let span : at + (length bytes - length rest) ≡ at + length front.head = omega (arith, ap length front.split, length-append front.head rest) in
+    (front.head, rest, front.split, refl, span, front.is, subst (λ (k : ℕ). AreFields k rest items) span are)
 
 pub are_listed : (more at : ℕ) (bytes : List ℕ) → length bytes ≤ more → bad at bytes ≡ None → AreFields at bytes (fields at bytes)
 are_listed more at [] le whole = subst (λ (fs : List Item). AreFields at [] fs) (sym (fields_end at)) refl
@@ -56,7 +56,7 @@ stops (suc more) at (b ∷ bytes) place le is =
       | None ↦ λ e. record {
         front = [];
         rest = all;
-        parts = refl;
+        split = refl;
         are = subst (λ (fs : List Item). AreFields at [] fs) (sym (fields_none at all e)) refl;
         counted = omega (arith, some_is at place (sym (bad_none at all (omega arith) e) ∙ is));
         some = omega arith;
@@ -66,14 +66,14 @@ stops (suc more) at (b ∷ bytes) place le is =
           let end = at + (length all - length found.2) in
           let front = field_found all found.0 found.1 found.2 e in
           let later = stops more end found.2 place (omega (arith, field_shorter all found e, le)) (sym (bad_found at all found.0 found.1 found.2 e) ∙ is) in
-          let parts : all ≡ (front.head ++ later.front) ++ later.rest = front.parts ∙ ap (λ (l : List ℕ). front.head ++ l) later.parts ∙ sym (append_assoc front.head later.front later.rest) in
-          let behind : end ≡ at + length front.head = omega (arith, ap length front.parts, length-append front.head found.2) in
+          let split : all ≡ (front.head ++ later.front) ++ later.rest = front.split ∙ ap (λ (l : List ℕ). front.head ++ l) later.split ∙ sym (append_assoc front.head later.front later.rest) in
+          let behind : end ≡ at + length front.head = omega (arith, ap length front.split, length-append front.head found.2) in
           let first : AreFields at (front.head ++ later.front) (item_of at end found ∷ fields end found.2) =
           (front.head, later.front, refl, refl, behind, front.is, subst (λ (k : ℕ). AreFields k later.front (fields end found.2)) behind later.are) in
           record {
             front = front.head ++ later.front;
             rest = later.rest;
-            parts = parts;
+            split = split;
             are = subst (λ (fs : List Item). AreFields at (front.head ++ later.front) fs) (sym (fields_found at all found.0 found.1 found.2 e)) first;
             counted = omega (arith, later.counted, behind, length-append front.head later.front);
             some = later.some;

@@ -6,8 +6,8 @@ use Rattle.std.proofs.Common.{◌≡◌, ℕ, zero, suc, ◌+◌, ◌-◌, ◌*�
 use Rattle.std.specs.List.{flat_map, AllByRecursion}
 use Rattle.std.proofs.lemmas.Bool.{lt-ltb, le-ltb, cases_lt}
 use Rattle.dkv_base.proofs.ByteLists.{Below, below_tail}
-use Rattle.dkv_base.specs.Spelling.{groups, varint, part}
-use Rattle.dkv_wire.specs.Wire.{Item, Content, AVarint, AFixed64, ALen, AFixed32, last_part, IsVarintIn, IsVarint, IsField}
+use Rattle.dkv_base.specs.Protobuf.{groups, varint, delimited}
+use Rattle.dkv_wire.specs.Wire.{Item, Content, AVarint, AFixed64, ALen, AFixed32, last_bits, IsVarintIn, IsVarint, IsField}
 use Rattle.dkv_wire.specs.Reading.{limit, varint_at, field_at}
 use Rattle.dkv_wire.specs.FieldLists.{fields, bad, varints}
 use Rattle.dkv_wire.proofs.Fronts.{varint_found, field_found}
@@ -76,22 +76,27 @@ sums (suc k) a b =
       ]
     ]
 
+-- a greater number has no shorter varint
 pub size_rises : (m n : ℕ) → m ≤ n → length (varint m) ≤ length (varint n)
 unfolding varint
 size_rises m n le = rises 10 m n le
 
+-- a number that is a little greater has a varint of one byte more at most
 pub size_step : (n d : ℕ) → d ≤ 127 → length (varint (n + d)) ≤ length (varint n) + 1
 unfolding varint
 size_step n d small = step 10 n d small
 
+-- the varint of a sum is no longer than those of its terms
 pub size_sum : (a b : ℕ) → length (varint (a + b)) ≤ length (varint a) + length (varint b)
 unfolding varint
 size_sum a b = sums 10 a b
 
+-- a varint has a byte
 pub size_some : (n : ℕ) → 1 ≤ length (varint n)
 unfolding varint
 size_some n = some 9 n
 
+-- the varint of a number below 128 is one byte
 pub size_one : (n : ℕ) → n < 128 → length (varint n) ≡ 1
 unfolding varint
 size_one n lt = few 9 n lt
@@ -107,7 +112,7 @@ below_right : (a b : List ℕ) → Below (a ++ b) → Below b
 below_right [] b all = all
 below_right (x ∷ a) b all = below_right a b (below_tail x (a ++ b) all)
 
-last_small : (more b : ℕ) → b < 128 → last_part more b < 128
+last_small : (more b : ℕ) → b < 128 → last_bits more b < 128
 last_small zero b lt = omega (arith, lt)
 last_small (suc more) b lt = lt
 
@@ -124,6 +129,7 @@ shortest_in (suc more) (b ∷ c ∷ bytes) n all is =
       | inr big ↦ omega (arith, many more n big, ap (size more) high, shortest_in more (c ∷ bytes) is.1 (below_tail b (c ∷ bytes) all) is.3)
     ]
 
+-- a varint is no shorter than the shortest of its number
 pub shortest : (bytes : List ℕ) (n : ℕ) → Below bytes → IsVarint bytes n → length (varint n) ≤ length bytes
 unfolding IsVarint varint
 shortest bytes n all is = shortest_in 10 bytes n all is
@@ -144,6 +150,7 @@ in_limit (suc (suc more)) (b ∷ c ∷ bytes) n all is =
     let byte : b < 256 = all 0 in
     omega (arith, is.0, is.2, byte, in_limit (suc more) (c ∷ bytes) is.1 (below_tail b (c ∷ bytes) all) is.3)
 
+-- a varint of bytes is a number below 2^64
 pub below_64 : (bytes : List ℕ) (n : ℕ) → Below bytes → IsVarint bytes n → n < 18446744073709551616
 unfolding IsVarint limit
 below_64 bytes n all is = in_limit 10 bytes n all is
@@ -154,27 +161,29 @@ below_64 bytes n all is = in_limit 10 bytes n all is
 abbrev pub IsSized : ℕ → ℕ → Content → Type 0
 IsSized k long (AVarint n) = (length (varint (k * 8)) + length (varint n) ≤ long) × (n < 18446744073709551616)
 IsSized k long (AFixed64 n) = Unit {0}
-IsSized k long (ALen text) = (length (part k text) ≤ long) × Below text
+IsSized k long (ALen text) = (length (delimited k text) ≤ long) × Below text
 IsSized k long (AFixed32 n) = Unit {0}
 
+-- the bytes of all fields
 abbrev pub span : List Item → ℕ
 span [] = 0
 span (f ∷ fs) = (f.end - f.at) + span fs
 
+-- each field is as long at least as what it holds is spelled, and all have so many bytes
 pub record Sized (fs : List Item) (long : ℕ) : Type 0 where
   pub each : AllByRecursion (λ f. IsSized f.number (f.end - f.at) f.content) fs
   pub total : span fs ≡ long
 
 field_sized : (head : List ℕ) (k : ℕ) (held : Content) → Below head → IsField head k held → IsSized k (length head) held
 field_sized head k (AVarint n) all is =
-    let below = subst Below is.parts all in
+    let below = subst Below is.split all in
     let wire : k * 8 + is.wire ≡ k * 8 = omega (arith, is.is_body.0) in
     let tag = shortest is.tag (k * 8 + is.wire) (below_left is.tag is.body below) is.is_tag in
     let body = shortest is.body n (below_right is.tag is.body below) is.is_body.1 in
-    (omega (arith, tag, body, ap length is.parts, length-append is.tag is.body, ap (λ (t : ℕ). length (varint t)) wire), below_64 is.body n (below_right is.tag is.body below) is.is_body.1)
+    (omega (arith, tag, body, ap length is.split, length-append is.tag is.body, ap (λ (t : ℕ). length (varint t)) wire), below_64 is.body n (below_right is.tag is.body below) is.is_body.1)
 field_sized head k (AFixed64 n) all is = tt
 field_sized head k (ALen text) all is =
-    let below = subst Below is.parts all in
+    let below = subst Below is.split all in
     let b = is.is_body in
     let wire : k * 8 + is.wire ≡ k * 8 + 2 = omega (arith, b.0) in
     let below_body = subst Below b.3 (below_right is.tag is.body below) in
@@ -182,7 +191,7 @@ field_sized head k (ALen text) all is =
     let long = shortest b.1 (length text) (below_left b.1 text below_body) b.2 in
     let t = varint (k * 8 + 2) in
     let l = varint (length text) in
-    (omega (arith, tag, long, ap length is.parts, length-append is.tag is.body, ap length b.3, length-append b.1 text, ap (λ (t : ℕ). length (varint t)) wire, length-append (t ++ l) text, length-append t l), below_right b.1 text below_body)
+    (omega (arith, tag, long, ap length is.split, length-append is.tag is.body, ap length b.3, length-append b.1 text, ap (λ (t : ℕ). length (varint t)) wire, length-append (t ++ l) text, length-append t l), below_right b.1 text below_body)
 field_sized head k (AFixed32 n) all is = tt
 
 abbrev Again : ℕ → Type 0
@@ -192,13 +201,13 @@ first_sized : (more p q : ℕ) (b : ℕ) (bs : List ℕ) (r : Option (ℕ × Con
 first_sized more p q b bs None again e le all good = absurd (cc (bad_none p (b ∷ bs) (omega arith) e, good))
 first_sized more p q b bs (Some x) again e le all good =
     let front = field_found (b ∷ bs) x.0 x.1 x.2 e in
-    let below = subst Below front.parts all in
+    let below = subst Below front.split all in
     let d = length (b ∷ bs) - length x.2 in
-    let is_d : d ≡ length front.head = omega (arith, ap length front.parts, length-append front.head x.2) in
+    let is_d : d ≡ length front.head = omega (arith, ap length front.split, length-append front.head x.2) in
     let is_item : q + d - q ≡ length front.head = omega (arith, is_d) in
     let first = subst (λ (n : ℕ). IsSized x.0 n x.1) (sym is_item) (field_sized front.head x.0 x.1 (below_left front.head x.2 below) front.is) in
     let others = again (p + d) (q + d) x.2 (omega (arith, le, field_shorter (b ∷ bs) x e)) (below_right front.head x.2 below) (sym (bad_found p (b ∷ bs) x.0 x.1 x.2 e) ∙ good) in
-    subst (λ (fs : List Item). Sized fs (length (b ∷ bs))) (sym (fields_found q (b ∷ bs) x.0 x.1 x.2 e)) (record { each = (first, others.each); total = omega (arith, is_d, others.total, ap length front.parts, length-append front.head x.2) })
+    subst (λ (fs : List Item). Sized fs (length (b ∷ bs))) (sym (fields_found q (b ∷ bs) x.0 x.1 x.2 e)) (record { each = (first, others.each); total = omega (arith, is_d, others.total, ap length front.split, length-append front.head x.2) })
 
 sized_in : (more : ℕ) → Again more
 sized_in more p q [] le all good = subst (λ (fs : List Item). Sized fs 0) (sym (fields_end q)) (record { each = tt; total = refl })
@@ -228,5 +237,6 @@ packed_in zero [] le all = omega (arith, ap (λ (ns : List ℕ). length (flat_ma
 packed_in zero (b ∷ bs) le all = absurd (omega (arith, le))
 packed_in (suc more) text le all = first_packed more text (varint_at text) (packed_in more) refl le all
 
+-- packed numbers are no shorter than their shortest varints
 pub packed_short : (text : List ℕ) → Below text → length (flat_map varint (varints text)) ≤ length text
 packed_short text all = packed_in (length text) text (omega arith) all

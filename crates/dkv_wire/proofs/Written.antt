@@ -3,9 +3,9 @@ use Rattle.std.proofs.Common.{◌≡◌, ℕ, ◌+◌, ◌*◌, ◌<◌, ◌≤�
 use Rattle.std.specs.Prelude.{flat_map}
 use Rattle.std.proofs.lemmas.Bool.{ne_eqb}
 use Rattle.std.proofs.lemmas.List.Elements.{All-tail}
-use Rattle.dkv_base.specs.Spelling.{varint, part, number_field}
+use Rattle.dkv_base.specs.Protobuf.{varint, delimited, number_field}
 pub use Rattle.dkv_wire.specs.Laws.{Before}
-use Rattle.dkv_wire.specs.Wire.{Content, ALen, AVarint, IsField}
+use Rattle.dkv_wire.specs.Wire.{Content, ALen, AVarint, IsFieldNumber, IsField}
 use Rattle.dkv_wire.specs.FieldLists.{item_of, fields, bad, varints, are_varints}
 use Rattle.dkv_wire.proofs.Fronts.{field_again, varint_again}
 use Rattle.dkv_wire.proofs.Again.{spelled, bytes_again, number_again}
@@ -22,23 +22,28 @@ before at number held head rest is =
       bad = bad_found at (head ++ rest) number held rest found ∙ ap (λ (k : ℕ). bad (at + k) rest) (span head rest);
     }
 
-pub before_part : (at number : ℕ) (bytes rest : List ℕ) → 1 ≤ number → number ≤ 536870911 → length bytes < 18446744073709551616 → Before at number (ALen bytes) (part number bytes) rest
-before_part at number bytes rest least most long = before at number (ALen bytes) (part number bytes) rest (bytes_again number bytes least most long)
+-- a payload that is written before other bytes is read again
+pub before_delimited : (at number : ℕ) (bytes rest : List ℕ) → IsFieldNumber number → length bytes < 18446744073709551616 → Before at number (ALen bytes) (delimited number bytes) rest
+before_delimited at number bytes rest is long = before at number (ALen bytes) (delimited number bytes) rest (bytes_again number bytes is long)
 
-pub before_number : (at number n : ℕ) (rest : List ℕ) → 1 ≤ number → number ≤ 536870911 → n < 18446744073709551616 → Before at number (AVarint n) (varint (number * 8) ++ varint n) rest
-before_number at number n rest least most lt = before at number (AVarint n) (varint (number * 8) ++ varint n) rest (number_again number n least most lt)
+-- a number that is written before other bytes is read again
+pub before_number : (at number n : ℕ) (rest : List ℕ) → IsFieldNumber number → n < 18446744073709551616 → Before at number (AVarint n) (varint (number * 8) ++ varint n) rest
+before_number at number n rest is lt = before at number (AVarint n) (varint (number * 8) ++ varint n) rest (number_again number n is lt)
 
 some_number : (number n : ℕ) → 1 ≤ n → number_field number n ≡ varint (number * 8) ++ varint n
 some_number number n some = rw (ne_eqb n 0 (λ e. omega (arith, e, some))) refl
 
-pub before_number_field : (at number n : ℕ) (rest : List ℕ) → 1 ≤ number → number ≤ 536870911 → 1 ≤ n → n < 18446744073709551616 → Before at number (AVarint n) (number_field number n) rest
-before_number_field at number n rest least most some lt = subst (λ (l : List ℕ). Before at number (AVarint n) l rest) (sym (some_number number n some)) (before_number at number n rest least most lt)
+-- the same of a field of a number that is not 0
+pub before_number_field : (at number n : ℕ) (rest : List ℕ) → IsFieldNumber number → 1 ≤ n → n < 18446744073709551616 → Before at number (AVarint n) (number_field number n) rest
+before_number_field at number n rest is some lt = subst (λ (l : List ℕ). Before at number (AVarint n) l rest) (sym (some_number number n some)) (before_number at number n rest is lt)
 
 -- ---- packed numbers
 
+-- a packed number before others is read again
 pub varints_again : (n : ℕ) (rest : List ℕ) → n < 18446744073709551616 → varints (varint n ++ rest) ≡ n ∷ varints rest
 varints_again n rest lt = varints_found (varint n ++ rest) n rest (varint_again (varint n) rest n (spelled n lt))
 
+-- a packed number before others is whole
 pub are_varints_again : (n : ℕ) (rest : List ℕ) → n < 18446744073709551616 → are_varints (varint n ++ rest) ≡ are_varints rest
 are_varints_again n rest lt = are_varints_found (varint n ++ rest) n rest (varint_again (varint n) rest n (spelled n lt))
 

@@ -6,10 +6,11 @@ use Rattle.dkv_wire.specs.FieldLists.{fields, bad, varints, are_varints}
 use Rattle.dkv_wire.specs.declared.fields.Field.{Field}
 use Rattle.dkv_wire.specs.declared.fields.Malformed.{Malformed}
 
--- the fields that are still to come, and the first place where none begins
+-- the fields that are still to come
 abbrev pub to_come : Walk → List Item
 to_come w = fields w.place w.bytes
 
+-- the first place from here on where no field begins
 abbrev pub bad_of : Walk → Option ℕ
 bad_of w = bad w.place w.bytes
 
@@ -32,7 +33,7 @@ Steps (Err m) old new = (to_come old ≡ []) × (bad_of old ≡ Some m.at)
 -- the bytes begin with a number, and the others are left
 pub record BeginsNumber (old new : List ℕ) (n : ℕ) : Type 0 where
   pub head : List ℕ
-  pub parts : old ≡ head ++ new
+  pub split : old ≡ head ++ new
   pub is : IsVarint head n
   pub numbers : varints old ≡ n ∷ varints new
   pub whole : are_varints old ≡ are_varints new
@@ -45,6 +46,7 @@ pub record NoNumber (old new : List ℕ) : Type 0 where
   pub numbers : varints old ≡ []
   pub whole : are_varints old ≡ (length old == 0)
 
+-- a number comes first, or none does
 abbrev pub VarintSteps : Option ℕ → List ℕ → List ℕ → Type 0
 VarintSteps (Some n) old new = BeginsNumber old new n
 VarintSteps None old new = NoNumber old new

@@ -1,3 +1,4 @@
+// The examples of the proto3 encoding guide.
 use crate::{Fields, Out, Varints};
 use std::test::Fail;
 

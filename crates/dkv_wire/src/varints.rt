@@ -1,8 +1,10 @@
+// Varints, read one after another.
 ghost use Rattle.std.specs.Prelude.{◌≡◌, ◌==◌, ◌<◌, ◌≤◌, ◌+◌, ◌*◌, length, IfSome};
 ghost use Rattle.dkv_wire.specs.Reading.{Finds, limit, varint_in, varint_at};
 ghost use Rattle.dkv_wire.specs.FieldLists.{are_varints};
 ghost use Rattle.dkv_wire.specs.Steps.{VarintSteps};
 
+use crate::limits::MAX_VARINT_BYTES;
 use std::marker::Model;
 
 /// The numbers that are still to come, packed in bytes one behind the other.
@@ -21,7 +23,7 @@ impl<'a> Model for Varints<'a> {
 
 // A number of at most so many bytes.
 fn varint_of(more: u8, bytes: &[u8]) -> Option<(u64, &[u8])>
-    requires { more ≤ 10 }
+    requires { more ≤ MAX_VARINT_BYTES }
     ensures found { Finds (λ x. (x.0, x.1.now)) result (varint_in more bytes.now) }
     ensures fits { IfSome result (λ x. x.0 < limit more) }
 {
@@ -45,7 +47,7 @@ fn varint_of(more: u8, bytes: &[u8]) -> Option<(u64, &[u8])>
 pub(crate) fn varint(bytes: &[u8]) -> Option<(u64, &[u8])>
     ensures { Finds (λ x. (x.0, x.1.now)) result (varint_at bytes.now) }
 {
-    varint_of(10, bytes)
+    varint_of(MAX_VARINT_BYTES, bytes)
 }
 
 impl<'a> Varints<'a> {

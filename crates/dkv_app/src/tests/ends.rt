@@ -1,11 +1,10 @@
-use super::running::{FOUND, NONE_FOUND, READ, SET, WRITTEN, frame, joined, run};
+// How runs end: at faults, at bad frames, at the end of the input.
+use super::running::{FOUND, NONE_FOUND, POLL, READ, SET, WRITTEN, frame, joined, run};
 use crate::status::{Pair, Status};
 use crate::top::run_once;
 use dkv_io::{Failed, ListRandom, MemorySink, MemorySource, Sink, VoidDisk};
 use std::alloc::Global;
 use std::test::*;
-
-const POLL: &[u8] = b"\x0d\0\0\0\x01\0\0\0\x05\0\0\0\0\0\0\0\x04";
 
 #[test]
 fn a_set_is_answered_and_then_read(rt: HostRuntime) -> Result<(), Fail> {

@@ -1,3 +1,4 @@
+// Entries that end.
 use super::running::{FOUND, NONE_FOUND, Said, WRITTEN, talk};
 use std::test::*;
 

@@ -1,3 +1,4 @@
+// Requests at their limits and past them.
 use super::requests::{add_set, read_frame, set_frame, write_frame};
 use super::running::{FOUND, READ, SET, WRITTEN, joined, run};
 use dkv_base::Run;

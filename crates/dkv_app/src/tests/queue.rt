@@ -1,3 +1,4 @@
+// Messages that are enqueued, taken, acknowledged and failed.
 use super::running::{Said, WRITTEN, talk};
 use std::test::*;
 

@@ -1,3 +1,4 @@
+// Reads of one key and of ranges.
 use super::requests::{read_frame, set_frame, told};
 use super::running::{joined, run};
 use std::test::*;

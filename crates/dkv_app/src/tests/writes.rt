@@ -1,3 +1,4 @@
+// Atomic writes: checks, mutations, versionstamped keys.
 use super::requests::{add, add_set, read_frame, set_frame, told, write_frame};
 use super::running::{FOUND, NONE_FOUND, READ, SET, WRITTEN, frame, joined, run};
 use dkv_base::{AtomicWrite, Bytes, Check, Run};

@@ -1,3 +1,4 @@
+-- Each thread has one other fewer to start.
 use Rattle.std.proofs.Common.{◌-◌, ◌*◌}
 use Rattle.bench_turn.proofs.by_mutex.+fn-mark_in_threads-join+arg2+mark_in_threads.Given as goal
 

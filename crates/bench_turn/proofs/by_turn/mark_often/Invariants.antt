@@ -1,7 +1,7 @@
-use Rattle.std.proofs.Common.{◌≡◌}
-use Rattle.dkv_turn.specs.Passes.{IsOutside, Same, loan}
-use Rattle.dkv_turn.specs.Words.{IsOf}
+-- The pass stays free through the rounds.
+use Rattle.dkv_turn.specs.Passes.{Same}
+use Rattle.bench_turn.specs.Free.{IsFree}
 use Rattle.bench_turn.proofs.by_turn.mark_often.Given as goal
 
 abbrev pub invariant-loop : goal.invariant-loop
-invariant-loop g l = IsOf (λ _. tt) l.turn l.pass × (IsOutside l.pass × (loan l.pass ≡ 0)) × Same l.initial.pass l.pass
+invariant-loop g l = IsFree l.turn l.pass × Same l.initial.pass l.pass

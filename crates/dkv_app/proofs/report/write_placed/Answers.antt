@@ -2,7 +2,7 @@ use Rattle.std.proofs.Common.{◌≡◌, List, ℕ, [], ◌∷◌, ◌++◌, Ok,
 use Rattle.std.specs.Prelude.{Result, OnErr, decimal}
 use Rattle.std.specs.Io.KnownBytes.{Appends}
 use Rattle.dkv_io.specs.Streams.{AppendsFront}
-use Rattle.dkv_pipe.proofs.Written.{appends_then, appends_front_then, appends_front_more}
+use Rattle.dkv_io.proofs.Written.{appends_then, appends_front_then, appends_front_more}
 use Rattle.dkv_app.proofs.report.write_placed.Goals as goal
 
 on_err : {T E : Type 0} (r : Result T E) (P : Type 0) → P → OnErr r P

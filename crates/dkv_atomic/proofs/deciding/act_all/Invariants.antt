@@ -1,12 +1,11 @@
 use Rattle.std.proofs.Common.{◌≡◌, ◌≤◌, true, length, drop}
-use Rattle.std.specs.Prelude.{◌==◌}
 use Rattle.std.specs.List.{list_all}
-use Rattle.dkv_base.specs.Limits.{from_zero}
 use Rattle.dkv_base.specs.State.{visible, is_visible}
 use Rattle.dkv_base.specs.Writes.{mutated_from}
-use Rattle.dkv_atomic.specs.Overlays.{overlaid, none_ends}
+use Rattle.dkv_atomic.specs.Overlays.{overlaid}
 use Rattle.dkv_atomic.proofs.deciding.act_all.Given as goal
 
+-- what all do is what those still to come do behind the changes so far
 abbrev pub invariant-loop-mutation : goal.invariant-loop-mutation
 invariant-loop-mutation g l =
     let seen = visible l.at (g.T.Table.content l.table) in
@@ -15,5 +14,4 @@ invariant-loop-mutation g l =
       place : l.index ≡ l.mutation-index;
       few : length l.overlay.puts ≤ l.mutation-index;
       seen : list_all (is_visible l.at) l.overlay.puts ≡ true;
-      endless : list_all (λ m. from_zero m.expire_at_ms == 0) l.mutations ≡ true → none_ends l.overlay.puts ≡ true;
     }

@@ -1,6 +1,6 @@
 use Rattle.dkv_base.proofs.Composes.{after_composes, legal_composes}
 use Rattle.dkv_base.proofs.StaysSound.{after_is_sound}
-use Rattle.dkv_base.proofs.Told.{after_nothing}
+use Rattle.dkv_base.proofs.AfterNothing.{after_nothing}
 use Rattle.dkv_base.proofs.laws.commits_compose.Goals as goal
 
 pub returns-clause-after : goal.returns-clause-after

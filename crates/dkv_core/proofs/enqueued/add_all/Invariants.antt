@@ -1,7 +1,6 @@
 use Rattle.std.proofs.Common.{◌≡◌, ◌+◌, ◌≤◌, ◌++◌, length}
 use Rattle.std.specs.Vec.Iter.{into_iter_items}
-use Rattle.dkv_queue.specs.Rows.{messages_of}
-use Rattle.dkv_core.specs.Rows.{out_of}
+use Rattle.dkv_queue.specs.Rows.{messages_of, out_of}
 use Rattle.dkv_core.proofs.enqueued.add_all.Given as goal
 
 -- the messages so far were added, and there is room for the others

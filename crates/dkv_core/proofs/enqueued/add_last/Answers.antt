@@ -1,6 +1,5 @@
 use Rattle.std.proofs.Common.{ap, ◌∙◌}
-use Rattle.dkv_queue.specs.Rows.{messages_of}
-use Rattle.dkv_core.specs.Rows.{out_of}
+use Rattle.dkv_queue.specs.Rows.{messages_of, out_of}
 use Rattle.dkv_core.proofs.Added.{absent, messages-added, out-added}
 use Rattle.dkv_core.proofs.enqueued.add_last.Goals as goal
 

@@ -1,6 +1,6 @@
 use Rattle.std.proofs.Common.{rules, arith, length, length-append, ◌≡◌, ◌∷◌, ◌++◌, IsTrue, true, subst}
 use Rattle.std.specs.declared.cmp.Ordering.TheVariants.{Less, Equal, Greater}
-use Rattle.dkv_index.specs.Orders.{is_rising}
+use Rattle.dkv_base.specs.Ordered.{is_rising}
 use Rattle.dkv_index.specs.Trees.{items_of}
 use Rattle.dkv_index.proofs.Sides.{between, put_in-less, put_in-equal, put_in-greater, found-less, found-equal, found-greater}
 use Rattle.dkv_index.proofs.changes.+grow.Goals as goal

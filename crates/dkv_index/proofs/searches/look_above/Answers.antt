@@ -1,7 +1,7 @@
 use Rattle.std.proofs.Common.{rules, ◌≡◌, ◌∷◌, ◌++◌, ◌∙◌, sym, ap, true, Some}
 use Rattle.std.specs.Option.{option_or, option_copied}
 use Rattle.std.specs.declared.cmp.Ordering.TheVariants.{Less}
-use Rattle.dkv_index.specs.Orders.{above, is_rising}
+use Rattle.dkv_base.specs.Ordered.{above, is_rising}
 use Rattle.dkv_index.specs.Trees.{items_of}
 use Rattle.dkv_index.proofs.Sides.{between, above-less, above-not_less, or_some}
 use Rattle.dkv_index.proofs.searches.look_above.Goals as goal

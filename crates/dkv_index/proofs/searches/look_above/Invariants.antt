@@ -1,6 +1,6 @@
 use Rattle.std.proofs.Common.{◌≡◌, IsTrue}
 use Rattle.std.specs.Option.{option_copied, option_or}
-use Rattle.dkv_index.specs.Orders.{above, is_rising}
+use Rattle.dkv_base.specs.Ordered.{above, is_rising}
 use Rattle.dkv_index.specs.Trees.{items_of}
 use Rattle.dkv_index.proofs.searches.look_above.Given as goal
 

@@ -1,6 +1,6 @@
 use Rattle.std.proofs.Common.{rules, ◌≡◌, ◌∷◌, ◌++◌, ◌∙◌, true}
 use Rattle.std.specs.declared.cmp.Ordering.TheVariants.{Less, Equal, Greater}
-use Rattle.dkv_index.specs.Orders.{found, is_rising}
+use Rattle.dkv_base.specs.Ordered.{found, is_rising}
 use Rattle.dkv_index.specs.Trees.{items_of}
 use Rattle.dkv_index.proofs.Sides.{between, found-less, found-equal, found-greater}
 use Rattle.dkv_index.proofs.searches.look_up.Goals as goal

@@ -1,5 +1,5 @@
 use Rattle.std.proofs.Common.{◌≡◌, IsTrue}
-use Rattle.dkv_index.specs.Orders.{found, is_rising}
+use Rattle.dkv_base.specs.Ordered.{found, is_rising}
 use Rattle.dkv_index.specs.Trees.{items_of}
 use Rattle.dkv_index.proofs.searches.look_up.Given as goal
 

@@ -23,7 +23,7 @@ pub loop-rest-preserved : goal.loop-rest-preserved
 loop-rest-preserved c =
     let begins = rw c.in-Some.is at c.in_ok-part.ensures in
     let front = front_more c.loop-rest.parts c.in-Some.part c.args.key.now c.loop-rest.rest.now c.in-Some.behind.now c.loop-rest.invariant begins in
-    subst (λ (ps : List Part). IsFront ps c.args.key.now c.in-Some.behind.now) (sym c.in-Ok.ensures.ok) front
+    subst (λ (ps : List Part). IsFront ps c.args.key.now c.in-Some.behind.now) (sym c.in_ok-add.ensures.ok) front
 
 pub returns-clause-parts : goal.returns-clause-parts
 returns-clause-parts c =

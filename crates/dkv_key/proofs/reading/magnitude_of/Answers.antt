@@ -10,7 +10,8 @@ returns-clause-found c =
     let n = c.args.count in
     let bytes = c.args.bytes.now in
     let items : c.put_magnitude.new.out.items ≡ magnitude_spelling s (take n bytes) =
-    c.in_ok-put_magnitude.ensures.spelled ∙ (λ i. c.new-magnitude.ensures.items i ++ magnitude_spelling s (c.split_at.ensures.front i)) in
+    c.in_ok-put_magnitude.ensures.spelled ∙ (λ i. c.new-magnitude.ensures.items i ++ magnitude_spelling s (c.in-Some.ensures.cases.1 i)) in
     let first = subst HasNoLeadingZero (c.as_slice.ensures.value ∙ items) (c.starts_with_zero.ensures.none c.if-starts_with_zero.false) in
-    let found = magnitude_found s n bytes (λ i. omega (arith, c.type_inv.bytes i)) c.if-bytes-count.false first in
-    subst (λ (m : List ℕ). HasMagnitude s n bytes m c.split_at.result.1.now) (sym (c.of.ensures ∙ items)) (subst (λ (rest : List ℕ). HasMagnitude s n bytes (magnitude_spelling s (take n bytes)) rest) (sym c.split_at.ensures.back) found)
+    let split = c.in-Some.ensures.cases in
+    let found = magnitude_found s n bytes (λ i. omega (arith, c.type_inv.bytes i)) split.0 first in
+    subst (λ (m : List ℕ). HasMagnitude s n bytes m c.in-Some.rest.now) (sym (c.of.ensures ∙ items)) (subst (λ (rest : List ℕ). HasMagnitude s n bytes (magnitude_spelling s (take n bytes)) rest) (sym split.2) found)

@@ -8,7 +8,7 @@ pub returns-in_ok-put-in-Double-clause-spelled : goal.returns-in_ok-put-in-Doubl
 unfolding double_bytes
 returns-in_ok-put-in-Double-clause-spelled c =
     let out : List ℕ = c.args.out.now.items in
-    let bytes : c.to_be_bytes.result ≡ double_bytes c.in-Double.pattern = c.to_be_bytes.ensures ∙ ap (to_be_bytes w64) c.stored.ensures.stored in
+    let bytes : c.to_be_bytes.result ≡ double_bytes c.in-Double.pattern = c.to_be_bytes.ensures ∙ ap (to_be_bytes w64) c.stored_pattern.ensures.value in
     let e : c.put-in-Double.new.out.items ++ c.to_be_bytes.result ≡ out ++ spelling c.args.part.now =
     (λ i. c.in_ok-put-in-Double.ensures i ++ bytes i) ∙ append_assoc out (33 ∷ []) (double_bytes c.in-Double.pattern) ∙ ap (λ (p : Part). out ++ spelling p) (sym c.in-Double.is) in
     rw e at c.put_all.ensures

@@ -1,6 +1,6 @@
-use Rattle.dkv_base.specs.Spelling.{spell_ranges, spell_write, spell_keys}
+use Rattle.dkv_msgs.specs.Spellings.{spell_ranges, spell_keys, spell_snapshot_read_output, spell_atomic_write_output, spell_watch_output}
+use Rattle.dkv_base.specs.Spelling.{spell_write}
 use Rattle.dkv_msgs.specs.Readings.{reads_snapshot_read, reads_snapshot_read_output, reads_atomic_write, reads_atomic_write_output, reads_watch, reads_watch_output}
-use Rattle.dkv_msgs.specs.Spellings.{spell_snapshot_read_output, spell_atomic_write_output, spell_watch_output}
 use Rattle.dkv_msgs.proofs.BackMessages.{one_message, read_again, read_output_again, write_again, write_output_again, watch_again, watch_output_again}
 use Rattle.dkv_msgs.proofs.laws.one_spelling.Goals as goal
 

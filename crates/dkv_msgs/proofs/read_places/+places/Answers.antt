@@ -21,8 +21,8 @@ begins_text old new number p text b is = subst (λ (q : Payload). Begins old new
 pub first_bad-bad_inside-requires : goal.first_bad-bad_inside-requires
 first_bad-bad_inside-requires t c =
     let first = (rw c.in-Ok-Some.field-0-is at c.in-Ok-Some.ensures.field).1 in
-    let b = begins_text c.loop-malformed.fields c.next.new.self c.in-Ok-Some.field.number c.in-Ok-Some.field.payload c.in-Len.text first c.in-Len.is in
-    let within = payload_inside c.loop-malformed.fields c.next.new.self c.in-Ok-Some.field.number c.in-Len.text.now b in
-    let whole = whole_stays c.loop-malformed.fields c.next.new.self c.in-Ok-Some.field.number (ALen c.in-Len.text.now) b in
+    let b = begins_text c.loop-malformed.fields c.next.new.self c.in-Ok-Some.found.number c.in-Ok-Some.found.payload c.in-Len.text first c.in-Len.is in
+    let within = payload_inside c.loop-malformed.fields c.next.new.self c.in-Ok-Some.found.number c.in-Len.text.now b in
+    let whole = whole_stays c.loop-malformed.fields c.next.new.self c.in-Ok-Some.found.number (ALen c.in-Len.text.now) b in
     let d = c.decreases in
     (omega (arith, within, whole, d), omega (arith, within, whole))

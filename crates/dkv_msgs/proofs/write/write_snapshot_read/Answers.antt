@@ -1,5 +1,5 @@
 use Rattle.std.proofs.Common.{◌≡◌, rules}
-use Rattle.dkv_base.specs.Spelling.{spell_ranges}
+use Rattle.dkv_msgs.specs.Spellings.{spell_ranges}
 use Rattle.dkv_msgs.specs.Fits.{ReadFits}
 use Rattle.dkv_msgs.specs.Readings.{reads_snapshot_read}
 use Rattle.dkv_msgs.proofs.BackMessages.{written_back, read_again}

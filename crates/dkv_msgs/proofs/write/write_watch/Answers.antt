@@ -1,5 +1,5 @@
 use Rattle.std.proofs.Common.{◌≡◌, rules}
-use Rattle.dkv_base.specs.Spelling.{spell_keys}
+use Rattle.dkv_msgs.specs.Spellings.{spell_keys}
 use Rattle.dkv_msgs.specs.Readings.{reads_watch}
 use Rattle.dkv_msgs.proofs.BackMessages.{written_back, watch_again}
 use Rattle.dkv_msgs.proofs.write.write_watch.Goals as goal

@@ -1,6 +1,6 @@
 use Rattle.std.proofs.Common.{◌≡◌, take}
 use Rattle.std.specs.List.{flat_map}
-use Rattle.dkv_base.specs.Spelling.{varint}
+use Rattle.dkv_base.specs.Protobuf.{varint}
 use Rattle.dkv_msgs.proofs.write_fields.varints.Given as goal
 
 abbrev pub invariant-loop-n : goal.invariant-loop-n

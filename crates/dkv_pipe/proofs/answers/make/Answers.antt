@@ -1,7 +1,8 @@
 use Rattle.std.proofs.Common.{◌≡◌, ℕ, ◌+◌, List, ap, subst, ◌∙◌}
-use Rattle.dkv_base.specs.Pipe.{reply_bytes}
+use Rattle.dkv_pipe.specs.declared.reply_status.ReplyStatus.TheVariants.{Done}
+use Rattle.dkv_pipe.specs.ReplyFrames.{reply_bytes}
 use Rattle.dkv_core.specs.declared.prepared.Decided.{Decided}
-use Rattle.dkv_core.specs.Cores.{Whole}
+use Rattle.dkv_core.specs.Cores.{Database}
 use Rattle.dkv_core.specs.Decisions.{IsDecided}
 use Rattle.dkv_core.proofs.Replying.{Made, SameAt}
 use Rattle.dkv_pipe.proofs.Grants.{call_fails, call_made}
@@ -15,11 +16,11 @@ returns-in_ok-reply-in-Fails-clause-reply c =
     let a = c.args.call.now in
     let is = subst (λ (d : Decided). IsDecided mid c.args.who at a d) c.in-Fails.is c.in_ok-passed.ensures.decided in
     let raised : SameAt mid at new = record {
-      state = ap (λ (v : Whole). v.state) c.raise.ensures;
-      out = ap (λ (v : Whole). v.out) c.raise.ensures;
-      greatest = ap (λ (v : Whole). v.greatest) c.raise.ensures;
+      state = ap (λ (v : Database). v.state) c.raise.ensures;
+      out = ap (λ (v : Database). v.out) c.raise.ensures;
+      greatest = ap (λ (v : Database). v.greatest) c.raise.ensures;
     } in
-    let told = c.in_ok-reply-in-Fails.ensures ∙ ap (λ (l : List ℕ). reply_bytes 0 l) (c.as_slice.ensures ∙ c.in_ok-body-in-Fails.ensures) in
+    let told = c.in_ok-reply-in-Fails.ensures ∙ ap (λ (l : List ℕ). reply_bytes Done l) (c.as_slice.ensures ∙ c.in_ok-body-in-Fails.ensures) in
     call_fails c.args.core.now mid new c.args.who c.args.moment at a c.in-Fails.places c.in_ok-reply-in-Fails.reply c.moment-at.ensures.value c.in_ok-passed.ensures.kept is raised told
 
 pub returns-in-Ok-clause-reply : goal.returns-in-Ok-clause-reply

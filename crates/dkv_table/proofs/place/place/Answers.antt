@@ -9,4 +9,4 @@ pub returns : goal.returns
 returns c =
     let facts = c.binary_search_by.ensures in
     let by_key = facts.position (λ e. key_cmp e.key c.args.key.now) (always_returns_same _ _ _ (λ a r f called. (search rules, search rules))) in
-    searched c.args.key.now c.args.entries.now c.requires _ facts.bound by_key
+    searched c.args.key.now c.args.entries.now c.requires c.binary_search_by.result facts.bound by_key

@@ -21,13 +21,13 @@ loop-call-preserved g c =
     let es = g.T.Table.content c.args.table.now in (
       tt,
       tt,
-      c.in_ok-push.ensures ∙ (λ i. kept.2 i ++ (one.answer ∙ ap (answer_of c.in-Some.call) kept.3) i ∷ []) ∙ sym (answers-more c.loop-call.yielded c.in-Some.call es),
+      c.in_ok-add.ensures.ok ∙ (λ i. kept.2 i ++ (one.answer ∙ ap (answer_of c.in-Some.call) kept.3) i ∷ []) ∙ sym (answers-more c.loop-call.yielded c.in-Some.call es),
       one.content ∙ ap (after_call c.in-Some.call) kept.3 ∙ sym (content_after-more c.loop-call.yielded c.in-Some.call es),
       one_more c.loop-call.yielded _ _ (into_iter_items c.next.new.self) c.in-Some.call c.in-Some.ensures.steps.0 kept.4,
     )
 
-pub returns-in_err-push-clause-err : goal.returns-in_err-push-clause-err
-returns-in_err-push-clause-err g c =
+pub returns-in_err-add-clause-err : goal.returns-in_err-add-clause-err
+returns-in_err-add-clause-err g c =
     let kept = c.loop-call.invariant in
     let one = c.in_ok-answer.ensures in
     let es = g.T.Table.content c.args.table.now in

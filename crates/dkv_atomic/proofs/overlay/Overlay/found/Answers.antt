@@ -1,7 +1,7 @@
 use Rattle.std.proofs.Common.{◌≡◌, true, sym, ap, ◌∙◌}
 use Rattle.dkv_base.specs.State.{entry_at, visible, is_in_key_order}
 use Rattle.dkv_atomic.specs.Overlays.{Changes}
-use Rattle.dkv_atomic.proofs.Lookups.{found_put}
+use Rattle.dkv_atomic.proofs.Overlaid.{found_put}
 use Rattle.dkv_atomic.proofs.overlay.Overlay.found.Goals as goal
 
 pub returns-in-Some : goal.returns-in-Some

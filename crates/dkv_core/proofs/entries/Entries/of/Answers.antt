@@ -1,7 +1,7 @@
 use Rattle.std.proofs.Common.{ap, ◌∙◌}
 use Rattle.dkv_core.specs.Cores.{put_all}
 use Rattle.dkv_core.specs.Entries.{Stored}
-use Rattle.dkv_core.proofs.Indexed.{put_in_order}
+use Rattle.dkv_core.proofs.PutInOrder.{put_in_order}
 use Rattle.dkv_core.proofs.entries.Entries.of.Goals as goal
 
 pub returns : goal.returns

@@ -3,7 +3,7 @@ use Rattle.dkv_base.specs.declared.types.Answer.TheVariants as answer
 use Rattle.dkv_base.specs.declared.types.Ask.TheVariants as ask
 use Rattle.dkv_base.specs.declared.types.MsgId.{MsgId}
 use Rattle.dkv_base.specs.State.{State}
-use Rattle.dkv_base.specs.Trails.{is_out}
+use Rattle.dkv_base.specs.Messages.{is_out}
 use Rattle.dkv_core.specs.Runs.{IsAnswered}
 use Rattle.dkv_core.proofs.Replying.{Made, same_answers, settle_made}
 use Rattle.dkv_core.proofs.machine.Core.answer_settle.Goals as goal

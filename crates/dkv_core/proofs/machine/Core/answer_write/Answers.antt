@@ -4,7 +4,7 @@ use Rattle.dkv_base.specs.declared.types.Ask.TheVariants as ask
 use Rattle.dkv_base.specs.declared.types.Call.TheVariants.{Write}
 use Rattle.dkv_base.specs.State.{State}
 use Rattle.dkv_core.specs.declared.prepared.Decided.{Decided}
-use Rattle.dkv_core.specs.Cores.{Whole}
+use Rattle.dkv_core.specs.Cores.{Database}
 use Rattle.dkv_core.specs.Decisions.{IsDecided}
 use Rattle.dkv_core.specs.Runs.{IsAnswered}
 use Rattle.dkv_core.proofs.Replying.{Made, SameAt, same_answers, write_limited, write_fails, write_not_u64, write_goes}
@@ -29,9 +29,9 @@ returns-in-Fails-clause-answer c =
     let w = c.args.write.now in
     let is = subst (λ (d : Decided). (who : ℕ) → IsDecided mid who c.args.at (Write w) d) c.in-Fails.is c.in_ok-limit.ensures.decided in
     let raised : SameAt mid c.args.at new = record {
-      state = ap (λ (v : Whole). v.state) c.raise.ensures;
-      out = ap (λ (v : Whole). v.out) c.raise.ensures;
-      greatest = ap (λ (v : Whole). v.greatest) c.raise.ensures;
+      state = ap (λ (v : Database). v.state) c.raise.ensures;
+      out = ap (λ (v : Database). v.out) c.raise.ensures;
+      greatest = ap (λ (v : Database). v.greatest) c.raise.ensures;
     } in
     same_answers c.args.self.now mid new c.args.who c.args.at (ask.Write w) (answer.Fails c.in-Fails.places) c.in_ok-limit.ensures.kept
     (write_fails mid new c.args.who c.args.at w c.in-Fails.places (is c.args.who) raised)
@@ -43,9 +43,9 @@ returns-in-NotU64-clause-answer c =
     let w = c.args.write.now in
     let is = subst (λ (d : Decided). (who : ℕ) → IsDecided mid who c.args.at (Write w) d) c.in-NotU64.is c.in_ok-limit.ensures.decided in
     let raised : SameAt mid c.args.at new = record {
-      state = ap (λ (v : Whole). v.state) c.raise-in-NotU64.ensures;
-      out = ap (λ (v : Whole). v.out) c.raise-in-NotU64.ensures;
-      greatest = ap (λ (v : Whole). v.greatest) c.raise-in-NotU64.ensures;
+      state = ap (λ (v : Database). v.state) c.raise-in-NotU64.ensures;
+      out = ap (λ (v : Database). v.out) c.raise-in-NotU64.ensures;
+      greatest = ap (λ (v : Database). v.greatest) c.raise-in-NotU64.ensures;
     } in
     same_answers c.args.self.now mid new c.args.who c.args.at (ask.Write w) (answer.NotU64 c.in-NotU64.index) c.in_ok-limit.ensures.kept
     (write_not_u64 mid new c.args.who c.args.at w c.in-NotU64.index (is c.args.who) raised)

@@ -3,11 +3,11 @@ use Rattle.std.specs.List.{list_all}
 use Rattle.std.specs.Option.{option_map_or}
 use Rattle.dkv_base.specs.declared.types.Entry.{Entry}
 use Rattle.dkv_base.specs.declared.types.Message.{Message}
-use Rattle.dkv_base.specs.Trails.{is_out}
-use Rattle.dkv_queue.specs.Rows.{messages_of}
+use Rattle.dkv_base.specs.Messages.{is_out}
+use Rattle.dkv_queue.specs.Rows.{messages_of, out_of}
 use Rattle.dkv_queue.specs.declared.row.Row.{Row}
-use Rattle.dkv_core.specs.Cores.{Whole, Change, IsReady, is_kept, is_made_by, applied, put_all, without_all}
-use Rattle.dkv_core.specs.Rows.{out_of, is_above}
+use Rattle.dkv_core.specs.Cores.{Database, Change, IsReady, is_kept, is_made_by, applied, put_all, without_all}
+use Rattle.dkv_core.specs.Rows.{is_above}
 use Rattle.dkv_core.specs.Settling.{after_settlement, out_after}
 use Rattle.dkv_core.specs.declared.prepared.Settled.{Settled}
 use Rattle.dkv_core.proofs.Added.{above_earlier, made_schedules}
@@ -20,14 +20,14 @@ settle-requires-clause-out c =
     let x = c.self.inside in
     let ready = subst (λ (p : Change). IsReady c.args.self.now p) (sym c.prepared.view_is) c.requires in
     let settled = c.prepared.inside.settled in
-    sym (may_settle settled x.queue.rows) ∙ ap (λ (v : Whole). option_map_or (λ (t : Settled). is_out t.id v.out) settled true) c.self.view_is ∙ ready.settles
+    sym (may_settle settled x.queue.rows) ∙ ap (λ (v : Database). option_map_or (λ (t : Settled). is_out t.id v.out) settled true) c.self.view_is ∙ ready.settles
 
 pub add_all-requires-clause-above : goal.add_all-requires-clause-above
 add_all-requires-clause-above c =
     let x = c.self.inside in
     let p = c.prepared.inside in
     let ready = subst (λ (q : Change). IsReady c.args.self.now q) (sym c.prepared.view_is) c.requires in
-    let number : p.number ≡ x.number + 1 = ready.number ∙ ap (λ (v : Whole). v.state.number + 1) (sym c.self.view_is) in
+    let number : p.number ≡ x.number + 1 = ready.number ∙ ap (λ (v : Database). v.state.number + 1) (sym c.self.view_is) in
     let made = subst (λ (n : ℕ). list_all (is_made_by n) p.added ≡ true) number ready.made in
     subst (λ (ms : List Message). list_all (is_above ms) p.added ≡ true) (sym (ap messages_of c.settle.ensures.rows ∙ messages-after p.settled p.moment x.queue.rows))
     (above_earlier x.number (after_settlement p.settled p.moment (messages_of x.queue.rows)) p.added (early-settled x.number p.moment p.settled (messages_of x.queue.rows) c.self.invariant.2) made)
@@ -42,7 +42,7 @@ invariant_of-self c =
     let x = c.self.inside in
     let p = c.prepared.inside in
     let ready = subst (λ (q : Change). IsReady c.args.self.now q) (sym c.prepared.view_is) c.requires in
-    let number : p.number ≡ x.number + 1 = ready.number ∙ ap (λ (v : Whole). v.state.number + 1) (sym c.self.view_is) in
+    let number : p.number ≡ x.number + 1 = ready.number ∙ ap (λ (v : Database). v.state.number + 1) (sym c.self.view_is) in
     let made = subst (λ (n : ℕ). list_all (is_made_by n) p.added ≡ true) number ready.made in
     let messages = c.add_all.ensures.messages ∙ ap (λ (ms : List Message). ms ++ p.added) (ap messages_of c.settle.ensures.rows ∙ messages-after p.settled p.moment x.queue.rows) in (
       omega arith,

@@ -5,13 +5,12 @@ use Rattle.dkv_base.specs.declared.types.Enqueue.{Enqueue}
 use Rattle.dkv_base.specs.declared.types.Entry.{Entry}
 use Rattle.dkv_base.specs.declared.types.Message.{Message}
 use Rattle.dkv_base.specs.Messages.{made_from}
-use Rattle.dkv_base.proofs.Told.{FailsFit}
+use Rattle.dkv_base.proofs.AfterNothing.{FailsFit}
 use Rattle.dkv_atomic.specs.Decisions.{IsEffects}
-use Rattle.dkv_queue.specs.Rows.{messages_of}
+use Rattle.dkv_queue.specs.Rows.{messages_of, out_of}
 use Rattle.dkv_queue.specs.declared.row.Row.{Row}
-use Rattle.dkv_core.specs.Cores.{Whole, Change, IsEffective, ends}
+use Rattle.dkv_core.specs.Cores.{Database, Change, IsEffective, ends}
 use Rattle.dkv_core.specs.Decisions.{Goes}
-use Rattle.dkv_core.specs.Rows.{out_of}
 use Rattle.dkv_core.proofs.Going.{write_goes}
 use Rattle.dkv_core.proofs.Kept.{fits}
 use Rattle.dkv_core.proofs.machine.Core.prepare_effects.Goals as goal
@@ -25,16 +24,16 @@ returns-clause-goes c who =
     let e = c.args.effects in
     let stored = c.reserve.new.self in
     let queue = c.reserve-2.new.self in
-    let w : Whole = record {
+    let w : Database = record {
       state = record { number = x.number; moment = x.last; entries = stored.entries; messages = messages_of queue.rows };
       out = out_of queue.rows;
       greatest = x.greatest;
       room = record { entries = stored.spare; endings = stored.endings; messages = queue.spare };
     } in
     let fit = subst (λ (rows : List Row). FailsFit (messages_of rows)) (sym c.in_ok-reserve-2.ensures.rows) (fits x.number (messages_of x.queue.rows) c.self.invariant.2) in
-    let first = subst (λ (v : Whole). IsEffects v.state.entries write at (v.state.number + 1) e) (sym c.self.view_is) c.requires.does in
+    let first = subst (λ (v : Database). IsEffects v.state.entries write at (v.state.number + 1) e) (sym c.self.view_is) c.requires.does in
     let does = subst (λ (es : List Entry). IsEffects es write at n e) (sym c.in_ok-reserve.ensures.entries) first in
-    let before = subst (λ (v : Whole). IsEffective v at) (sym c.self.view_is) c.requires.effective in
+    let before = subst (λ (v : Database). IsEffective v at) (sym c.self.view_is) c.requires.effective in
     let effective : IsEffective w at = record { late = before.late; within = before.within } in
     let added = c.in_ok-added.ensures ∙ ap (λ (qs : List Enqueue). made_from n 0 qs) c.as_slice.ensures in
     let puts : List Entry = c.in_ok-puts.puts in

@@ -14,15 +14,15 @@ loop-step-preserved c =
     let ps = c.args.steps.now in
     let lt : i < length ps = omega arith in
     record {
-      ran = subst (λ (rs : List Answer). Ran c.args.self.now (take (i + 1) ps) rs c.step.new.self) (sym c.in_ok-push.ensures)
+      ran = subst (λ (rs : List Answer). Ran c.args.self.now (take (i + 1) ps) rs c.step.new.self) (sym c.in_ok-add.ensures.ok)
           (ran_next c.args.self.now c.loop-step.self c.step.new.self ps i c.step-item.result c.loop-step.answers c.in_ok-answer.answer lt c.step-item.is c.loop-step.invariant.ran c.in_ok-answer.ensures.answer);
       few = omega (arith, c.in_ok-answer.ensures.next, c.loop-step.invariant.few);
     }
 
-pub returns-in_err-push-clause-err : goal.returns-in_err-push-clause-err
-returns-in_err-push-clause-err c =
+pub returns-in_err-add-clause-err : goal.returns-in_err-add-clause-err
+returns-in_err-add-clause-err c =
     let i = c.loop-step.step-index in
     let ps = c.args.steps.now in
     let lt : i < length ps = omega arith in
     let ran = ran_next c.args.self.now c.loop-step.self c.step.new.self ps i c.step-item.result c.loop-step.answers c.in_ok-answer.answer lt c.step-item.is c.loop-step.invariant.ran c.in_ok-answer.ensures.answer in
-    on_err c.from_residual-in_err-push.result (cut_short c.args.self.now c.step.new.self ps (i + 1) ran.leads)
+    on_err c.from_residual-in_err-add.result (cut_short c.args.self.now c.step.new.self ps (i + 1) ran.leads)

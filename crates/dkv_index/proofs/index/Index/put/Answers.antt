@@ -1,8 +1,8 @@
 use Rattle.std.proofs.Common.{rules, arith, ◌≡◌, ◌+◌, ◌<◌, ◌^◌, length, Some, None, ap}
-use Rattle.dkv_index.specs.Orders.{found, put_in}
+use Rattle.dkv_base.specs.Ordered.{found, put_in}
 use Rattle.dkv_index.specs.Trees.{items_of}
 use Rattle.dkv_index.proofs.Counts.{length-put_in}
-use Rattle.dkv_index.proofs.Risings.{rising-put_in}
+use Rattle.dkv_base.proofs.Risings.{rising-put_in}
 use Rattle.dkv_index.proofs.index.Index.put.Goals as goal
 
 pub overflow_add-self : goal.overflow_add-self

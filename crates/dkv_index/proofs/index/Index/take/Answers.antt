@@ -1,8 +1,8 @@
 use Rattle.std.proofs.Common.{rules, arith, ◌≡◌, length, Some, None, ap, ◌∙◌}
-use Rattle.dkv_index.specs.Orders.{found, left_out}
+use Rattle.dkv_base.specs.Ordered.{found, left_out}
 use Rattle.dkv_index.specs.Trees.{items_of}
 use Rattle.dkv_index.proofs.Counts.{length-left_out, left_out-absent}
-use Rattle.dkv_index.proofs.Risings.{rising-left_out}
+use Rattle.dkv_base.proofs.Risings.{rising-left_out}
 use Rattle.dkv_index.proofs.index.Index.take.Goals as goal
 
 -- the item's node goes back to the pool

@@ -1,9 +1,10 @@
 use Rattle.std.proofs.Common.{min, false, Some, ap, sym, ◌∙◌, arith, option_map}
+use Rattle.dkv_base.specs.declared.moments.TheConstants.{MAX_MOMENT}
 use Rattle.dkv_base.specs.declared.types.Message.{Message}
 use Rattle.dkv_base.specs.Messages.{exhausted}
-use Rattle.dkv_index.specs.Orders.{put_in}
+use Rattle.dkv_base.specs.Ordered.{put_in}
 use Rattle.dkv_queue.specs.declared.row.Row.{Row}
-use Rattle.dkv_queue.specs.Rows.{Rows, row_cmp, is_taken, failed, messages_of, message_at, has_schedule}
+use Rattle.dkv_queue.specs.Rows.{Rows, row_cmp, is_row_out, failed, messages_of, message_at, has_schedule}
 use Rattle.dkv_queue.proofs.Looks.{known-at, known-out, never-none, row_at-of}
 use Rattle.dkv_queue.proofs.Changes.{failed-gone, failed-again}
 use Rattle.dkv_queue.proofs.Failures.{schedule-failed, fails-again, fails-last, not_exhausted, now_exhausted, message_at-put_in}
@@ -13,27 +14,27 @@ use Rattle.dkv_queue.proofs.queue.Queue.retry.Goals as goal
 pub overflow_sub-self : goal.overflow_sub-self
 overflow_sub-self c =
     let is = known-at c.args.id c.self.inside.rows.items c.in-Some.row c.in-Some.ensures.was in
-    let out = known-out c.args.id c.self.inside.rows.items c.in-Some.row c.self.invariant.rising is (ap (λ (q : Rows). is_taken c.args.id q.rows) c.self.view_is ∙ c.requires) in
-    kept-some c.self.inside.rows c.self.inside.due c.self.inside.taken c.self.inside.room c.args.id c.in-Some.row c.self.invariant is out
+    let out = known-out c.args.id c.self.inside.rows.items c.in-Some.row c.self.invariant.rising is (ap (λ (q : Rows). is_row_out c.args.id q.rows) c.self.view_is ∙ c.requires) in
+    kept-some c.self.inside.rows c.self.inside.due c.self.inside.outs c.self.inside.room c.args.id c.in-Some.row c.self.invariant is out
 
 pub fail-requires-clause-schedule : goal.fail-requires-clause-schedule
 fail-requires-clause-schedule c =
-    kept-schedule c.self.inside.rows c.self.inside.due c.self.inside.taken c.self.inside.room c.args.id c.in-Some.row c.self.invariant
+    kept-schedule c.self.inside.rows c.self.inside.due c.self.inside.outs c.self.inside.room c.args.id c.in-Some.row c.self.invariant
     (known-at c.args.id c.self.inside.rows.items c.in-Some.row c.in-Some.ensures.was)
 
 pub put-requires : goal.put-requires
 put-requires c =
     let is = known-at c.args.id c.self.inside.rows.items c.in-Some.row c.in-Some.ensures.was in
-    let out = known-out c.args.id c.self.inside.rows.items c.in-Some.row c.self.invariant.rising is (ap (λ (q : Rows). is_taken c.args.id q.rows) c.self.view_is ∙ c.requires) in
-    let some = kept-some c.self.inside.rows c.self.inside.due c.self.inside.taken c.self.inside.room c.args.id c.in-Some.row c.self.invariant is out in
+    let out = known-out c.args.id c.self.inside.rows.items c.in-Some.row c.self.invariant.rising is (ap (λ (q : Rows). is_row_out c.args.id q.rows) c.self.view_is ∙ c.requires) in
+    let some = kept-some c.self.inside.rows c.self.inside.due c.self.inside.outs c.self.inside.room c.args.id c.in-Some.row c.self.invariant is out in
     omega (arith, some, c.self.invariant.due_room)
 
 pub invariant_of-self : goal.invariant_of-self
 invariant_of-self c =
     let is = known-at c.args.id c.self.inside.rows.items c.in-Some.row c.in-Some.ensures.was in
-    let out = known-out c.args.id c.self.inside.rows.items c.in-Some.row c.self.invariant.rising is (ap (λ (q : Rows). is_taken c.args.id q.rows) c.self.view_is ∙ c.requires) in
-    let schedule = kept-schedule c.self.inside.rows c.self.inside.due c.self.inside.taken c.self.inside.room c.args.id c.in-Some.row c.self.invariant is in
-    kept-again c.self.inside.rows c.take.new.self c.put-in-Ok.new.self c.self.inside.due c.put.new.self c.self.inside.taken c.self.inside.room c.args.id c.in-Some.row c.in-Ok.message c.self.invariant
+    let out = known-out c.args.id c.self.inside.rows.items c.in-Some.row c.self.invariant.rising is (ap (λ (q : Rows). is_row_out c.args.id q.rows) c.self.view_is ∙ c.requires) in
+    let schedule = kept-schedule c.self.inside.rows c.self.inside.due c.self.inside.outs c.self.inside.room c.args.id c.in-Some.row c.self.invariant is in
+    kept-again c.self.inside.rows c.take.new.self c.put-in-Ok.new.self c.self.inside.due c.put.new.self c.self.inside.outs c.self.inside.room c.args.id c.in-Some.row c.in-Ok.message c.self.invariant
     is out (ap (λ (m : Message). m.id) c.in-Ok.ensures.again ∙ row_at-of c.args.id c.self.inside.rows.items c.in-Some.row is)
     (ap has_schedule c.in-Ok.ensures.again ∙ schedule-failed c.min.result c.in-Some.row.message schedule c.in-Ok.ensures.left)
     c.in-Some.ensures.items c.in-Some.ensures.gained c.put.ensures.items c.put.ensures.kept c.put-in-Ok.ensures.items c.put-in-Ok.ensures.kept
@@ -41,12 +42,12 @@ invariant_of-self c =
 pub invariant_of-self-in-Err : goal.invariant_of-self-in-Err
 invariant_of-self-in-Err c =
     let is = known-at c.args.id c.self.inside.rows.items c.in-Some.row c.in-Some.ensures.was in
-    let out = known-out c.args.id c.self.inside.rows.items c.in-Some.row c.self.invariant.rising is (ap (λ (q : Rows). is_taken c.args.id q.rows) c.self.view_is ∙ c.requires) in
-    kept-settled c.self.inside.rows c.take.new.self c.self.inside.due c.self.inside.taken c.self.inside.room c.args.id c.in-Some.row c.self.invariant is out c.in-Some.ensures.items c.in-Some.ensures.gained
+    let out = known-out c.args.id c.self.inside.rows.items c.in-Some.row c.self.invariant.rising is (ap (λ (q : Rows). is_row_out c.args.id q.rows) c.self.view_is ∙ c.requires) in
+    kept-settled c.self.inside.rows c.take.new.self c.self.inside.due c.self.inside.outs c.self.inside.room c.args.id c.in-Some.row c.self.invariant is out c.in-Some.ensures.items c.in-Some.ensures.gained
 
 pub unreachable-requires : goal.unreachable-requires
 unreachable-requires c =
-    never-none (λ r. r.out) c.args.id c.self.inside.rows.items c.self.invariant.rising c.in-None.ensures.was (ap (λ (q : Rows). is_taken c.args.id q.rows) c.self.view_is ∙ c.requires)
+    never-none (λ r. r.out) c.args.id c.self.inside.rows.items c.self.invariant.rising c.in-None.ensures.was (ap (λ (q : Rows). is_row_out c.args.id q.rows) c.self.view_is ∙ c.requires)
 
 pub returns-in-Ok-clause-rows : goal.returns-in-Ok-clause-rows
 returns-in-Ok-clause-rows c =
@@ -56,7 +57,7 @@ returns-in-Ok-clause-rows c =
     (fails-again c.min.result c.in-Some.row c.in-Ok.ensures.left ∙ ap (λ (m : Message). Some (waiting m)) (sym c.in-Ok.ensures.again))
     (ap (λ (m : Message). m.id) c.in-Ok.ensures.again ∙ row_at-of c.args.id c.self.inside.rows.items c.in-Some.row is)
     ∙ ap (λ at. failed c.args.id at c.self.inside.rows.items) c.min.ensures
-    ∙ ap (λ (q : Rows). failed c.args.id (min c.args.at 253370764800000) q.rows) c.self.view_is
+    ∙ ap (λ (q : Rows). failed c.args.id (min c.args.at MAX_MOMENT) q.rows) c.self.view_is
   where
     waiting : Message → Row
     waiting m = record { message = m; out = false }
@@ -77,7 +78,7 @@ returns-in-Err-clause-rows c =
     c.in-Some.ensures.items
     ∙ failed-gone c.args.id c.min.result c.self.inside.rows.items c.in-Some.row c.self.invariant.rising is (fails-last c.min.result c.in-Some.row c.in-Err.ensures.last)
     ∙ ap (λ at. failed c.args.id at c.self.inside.rows.items) c.min.ensures
-    ∙ ap (λ (q : Rows). failed c.args.id (min c.args.at 253370764800000) q.rows) c.self.view_is
+    ∙ ap (λ (q : Rows). failed c.args.id (min c.args.at MAX_MOMENT) q.rows) c.self.view_is
 
 pub returns-in-Err-clause-answer : goal.returns-in-Err-clause-answer
 returns-in-Err-clause-answer c =

@@ -1,5 +1,6 @@
+-- A look at the word serving keeps the rule.
 use Rattle.std.proofs.Common.{rules, ap, ◌∙◌}
-use Rattle.dkv_turn.proofs.Keeps.{looks}
+use Rattle.dkv_turn.proofs.Tickets.{looks}
 use Rattle.dkv_turn.proofs.turn.Turn.await_turn.Goals as goal
 
 pub load-requires : goal.load-requires

@@ -1,6 +1,7 @@
+-- The value that the slot has at the end is the last pass's.
 use Rattle.std.proofs.Common.{ap, ◌∙◌, ◌≡◌, ◌+◌, length, Some, sym, subst}
 use Rattle.dkv_turn.specs.Ends.{Ends}
-use Rattle.dkv_turn.proofs.Keeps.{last_value}
+use Rattle.dkv_turn.proofs.Closes.{last_value}
 use Rattle.dkv_turn.proofs.turn.Turn.close.Goals as goal
 
 pub unreachable-requires : goal.unreachable-requires

@@ -1,7 +1,9 @@
+-- The steps of a leave keep the rule, with one item more or none.
 use Rattle.std.proofs.Common.{rules, ap, ◌∙◌, ◌∷◌, ◌++◌, [], Some, refl, sym, ⊎_elim, arith, length, length-append}
 use Rattle.dkv_turn.specs.Views.{loan_of}
 use Rattle.atomic_table.specs.Table.{rest}
-use Rattle.dkv_turn.proofs.Keeps.{adds, passes_on}
+use Rattle.dkv_turn.proofs.Tickets.{passes_on}
+use Rattle.dkv_turn.proofs.Items.{adds}
 use Rattle.dkv_turn.proofs.turn.Turn.leave.Goals as goal
 
 pub fetch_add-requires : goal.fetch_add-requires

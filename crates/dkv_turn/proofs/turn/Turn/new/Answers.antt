@@ -1,6 +1,7 @@
+-- A new turn meets the rule.
 use Rattle.std.proofs.Common.{ap, ◌∙◌, ◌∷◌, ◌++◌, [], Some, sym, map}
 use mathlib.Core.Option.{some}
-use Rattle.dkv_turn.proofs.Keeps.{opens}
+use Rattle.dkv_turn.proofs.Splits.{opens}
 use Rattle.dkv_turn.proofs.turn.Turn.new.Goals as goal
 
 pub new-requires : goal.new-requires

@@ -1,5 +1,6 @@
+-- The swap of the loan keeps the rule.
 use Rattle.std.proofs.Common.{rules, sym, ⊎_elim}
-use Rattle.dkv_turn.proofs.Keeps.{changes}
+use Rattle.dkv_turn.proofs.Loans.{changes}
 use Rattle.dkv_turn.proofs.turn.Turn.settle_loan.Goals as goal
 
 pub swap-requires : goal.swap-requires

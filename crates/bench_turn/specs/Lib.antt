@@ -1,0 +1,2 @@
+-- What clauses of the benchmark say.
+pub mod Free

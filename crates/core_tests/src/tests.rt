@@ -1,0 +1,10 @@
+mod asking;
+mod calls;
+mod drawn;
+mod mixed;
+mod moments;
+mod parts;
+mod plain_list;
+mod rows;
+mod telling;
+mod writes;

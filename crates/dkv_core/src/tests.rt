@@ -1,7 +1,0 @@
-mod asking;
-mod calls;
-mod mixed;
-mod moments;
-mod plain_list;
-mod wishes;
-mod writes;

@@ -1,0 +1,13 @@
+mod Words
+mod Stamps
+mod Limits
+mod Writes
+mod Ranges
+mod Messages
+mod Watches
+mod Trails
+mod UnsoundBases
+mod FullTerms
+mod Spelled
+mod Bodies
+mod Pipe
