@@ -1,0 +1,14 @@
+pub mod OneRequest
+pub mod Apart
+pub mod Waiting
+pub mod FirstValues
+pub mod BadStays
+pub mod OneRest
+pub mod Scans
+pub mod Opens
+pub mod Judges
+pub mod ChunkLines
+pub mod Sections
+pub mod Ends
+pub mod Values
+pub mod Digits

@@ -1,0 +1,7 @@
+mod Holding
+mod Stepping
+mod Feeding
+mod Taking
+mod Going
+mod Hex
+mod Puts
