@@ -1,8 +1,8 @@
 -- A whole frame at the front stays there, whatever follows.
-use Rattle.std.proofs.Common.{◌≡◌, ℕ, ◌+◌, ◌-◌, ◌≤◌, Bool, true, false, cond, Option, Some, None, List, ◌++◌, length, take, drop, refl, sym, ap, subst, ◌∙◌, arith, length-append}
+use Rattle.std.proofs.Common.{◌≡◌, ℕ, ◌+◌, ◌-◌, ◌≤◌, Bool, true, false, cond, Option, Some, None, List, ◌++◌, length, take, drop, refl, sym, ap, subst, ◌∙◌, arith, length-append, length-take}
 use Rattle.std.specs.Prelude.{nat_lt, not}
 use Rattle.std.specs.Int.{w32, from_le_bytes}
-use Rattle.std.proofs.lemmas.Bool.{le-ltb, ltb-false, not-false}
+use Rattle.std.proofs.lemmas.Bool.{le-ltb, ltb-false, not-false, or_parts}
 use Rattle.std.proofs.lemmas.List.{take-append-le, drop-append-le, get_or_append_left, length-drop}
 use Rattle.dkv_pipe.specs.declared.frame_kind.FrameKind.{FrameKind}
 use Rattle.dkv_pipe.specs.declared.frames.Head.{Head}
@@ -24,14 +24,14 @@ unfolding front
 is_whole bytes k t =
     rw (le-ltb (length bytes) 4 (omega (arith, t.long)), t.range, le-ltb (length bytes) 17 t.long, t.kind, t.fits, le-ltb (length bytes) (4 + length_at bytes) t.whole) refl
 
-other : (b : Bool) (x y z : Front) → cond b x y ≡ z → (x ≡ z → ⊥) → (b ≡ false) × (y ≡ z)
+pub other : (b : Bool) (x y z : Front) → cond b x y ≡ z → (x ≡ z → ⊥) → (b ≡ false) × (y ≡ z)
 other true x y z e differ = absurd (differ e)
 other false x y z e differ = (refl, e)
 
-not_partial : (f : PipeFrame) (after : List ℕ) → Partial ≡ Whole f after → ⊥
+pub not_partial : (f : PipeFrame) (after : List ℕ) → Partial ≡ Whole f after → ⊥
 not_partial f after e = absurd cc
 
-not_refused : (f : PipeFrame) (after : List ℕ) → Refused ≡ Whole f after → ⊥
+pub not_refused : (f : PipeFrame) (after : List ℕ) → Refused ≡ Whole f after → ⊥
 not_refused f after e = absurd cc
 
 -- the last tests, which ask for the kind
@@ -74,11 +74,26 @@ whole_is bytes f after e =
       is = last.is;
     }
 
-module _ (bytes more : List ℕ) (long : BODY_PLACE ≤ length bytes) where
-  same_length : length_at (bytes ++ more) ≡ length_at bytes
-  same_length = ap (from_le_bytes w32) (take-append-le 4 bytes more (omega (arith, long)))
+-- the length that is read stays
+pub length_more : (bytes more : List ℕ) → LENGTH_BYTES ≤ length bytes → length_at (bytes ++ more) ≡ length_at bytes
+length_more bytes more long = ap (from_le_bytes w32) (take-append-le 4 bytes more long)
 
-  same_code : code_at (bytes ++ more) ≡ code_at bytes
+-- the bytes of a whole frame and what is behind it
+counted : (bytes : List ℕ) (k : FrameKind) (f : PipeFrame) (after : List ℕ) → Tests bytes k → Whole (frame_at k bytes) (drop (LENGTH_BYTES + length_at bytes) bytes) ≡ Whole f after → length bytes ≡ BODY_PLACE + length f.body + length after
+counted bytes k f after t is =
+    let body : take (body_length_at bytes) (drop BODY_PLACE bytes) ≡ f.body = cc in
+    let rest : drop (LENGTH_BYTES + length_at bytes) bytes ≡ after = cc in
+    let least = ltb-false (length_at bytes) 13 (or_parts (nat_lt (length_at bytes) 13) (nat_lt 2097165 (length_at bytes)) t.range).0 in
+    omega (arith, least, t.long, t.whole, ap length body, ap length rest, length-take (body_length_at bytes) (drop BODY_PLACE bytes), length-drop BODY_PLACE bytes, length-drop (LENGTH_BYTES + length_at bytes) bytes)
+
+pub whole_length : (bytes : List ℕ) (f : PipeFrame) (after : List ℕ) → front bytes ≡ Whole f after → length bytes ≡ BODY_PLACE + length f.body + length after
+whole_length bytes f after e = let found = whole_is bytes f after e in counted bytes found.kind f after found.tests found.is
+
+module _ (bytes more : List ℕ) (long : BODY_PLACE ≤ length bytes) where
+  pub same_length : length_at (bytes ++ more) ≡ length_at bytes
+  same_length = length_more bytes more (omega (arith, long))
+
+  pub same_code : code_at (bytes ++ more) ≡ code_at bytes
   same_code = get_or_append_left bytes more 0 16 (omega (arith, long))
 
   same_part : (n at : ℕ) → at + n ≤ length bytes → take n (drop at (bytes ++ more)) ≡ take n (drop at bytes)

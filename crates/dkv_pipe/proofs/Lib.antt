@@ -2,6 +2,8 @@ mod Codes
 mod Fronts
 mod RepliedFrames
 mod Runs
-mod One
 mod Spelled
+mod Refused
+mod One
+pub mod Complete
 mod Grants

@@ -13,15 +13,14 @@ use Rattle.dkv_core.specs.Runs.{situation_of}
 use Rattle.dkv_pipe.specs.declared.frames.Head.{Head}
 use Rattle.dkv_pipe.specs.declared.pipe.PipeEnd.TheVariants as end
 use Rattle.dkv_pipe.specs.declared.sizes.TheConstants.{MAX_PLACE}
-use Rattle.dkv_pipe.specs.Frames.{Partial, Refused, front}
+use Rattle.dkv_pipe.specs.Frames.{PipeFrame, Partial, Refused, front, BeginEarly}
 use Rattle.dkv_pipe.specs.Wishes.{readings}
 use Rattle.dkv_pipe.specs.Pipe.{frame_step}
 use Rattle.dkv_pipe.specs.Built.{is_built}
-use Rattle.dkv_pipe.specs.Replied.{Replied}
 use Rattle.dkv_pipe.specs.Grants.{Answers}
 use Rattle.dkv_pipe.specs.Ends.{Streams, Course, CourseTo, NoFrame, Ran}
 use Rattle.dkv_pipe.specs.Running.{Running, IsWholeOf, frame_with, body_at}
-use Rattle.dkv_pipe.proofs.RepliedFrames.{replied_more, replied_one}
+use Rattle.dkv_pipe.proofs.RepliedFrames.{replied_more, replied_one, begin_early_one}
 use Rattle.dkv_io.proofs.Written.{appends_nothing, appends_then}
 
 -- ---- what was read
@@ -47,6 +46,7 @@ at_start c before = record {
   answered = record {
     situation = situation_of c;
     replied = record { frames = []; whole = refl; built = tt; replied = refl; leads = refl };
+    early = tt;
     stands = record { state = refl; out = λ id. refl; greatest = refl; unstopped = refl; unlimited = refl };
     place = refl;
   };
@@ -56,42 +56,45 @@ at_start c before = record {
 -- a piece is read
 pub more_on : (from : Situation) (before now next : Streams) (c : cores.Database) (buffer : List ℕ) (at : ℕ) (piece : List ℕ)
     → Running from before now c buffer at → Consumes now.left next.left piece → now.held ≡ next.held → Running from before next c (buffer ++ piece) at
-more_on from before now next c buffer at piece is takes keeps = record {
-  read = is.read ++ piece;
-  out = is.out;
-  consumed = consumes_then before.left now.left next.left is.read piece is.consumed takes;
-  answered = record {
-    situation = is.answered.situation;
-    replied = replied_more from is.read piece is.answered.situation is.out buffer is.answered.replied;
-    stands = is.answered.stands;
-    place = omega (arith, is.answered.place, length-append is.read piece, length-append buffer piece);
-  };
-  written = subst (λ (held : Option (List ℕ)). Appends before.held held is.out) keeps is.written;
-}
+more_on from before now next c buffer at piece is takes keeps =
+    let more = replied_more from is.read piece is.answered.situation is.out buffer is.answered.replied in record {
+      read = is.read ++ piece;
+      out = is.out;
+      consumed = consumes_then before.left now.left next.left is.read piece is.consumed takes;
+      answered = record {
+        situation = is.answered.situation;
+        replied = more.replied;
+        early = subst (λ (fs : List PipeFrame). BeginEarly 0 fs) (sym more.same) is.answered.early;
+        stands = is.answered.stands;
+        place = omega (arith, is.answered.place, length-append is.read piece, length-append buffer piece);
+      };
+      written = subst (λ (held : Option (List ℕ)). Appends before.held held is.out) keeps is.written;
+    }
 
 -- one more frame is answered
 answered_next : (from : Situation) (c d : cores.Database) (read out buffer : List ℕ) (at : ℕ) (h : Head) (reply : List ℕ)
-    → CourseTo from c (record { read = read; at = at; out = out; rest = buffer }) → IsWholeOf h buffer → Answers c (frame_with h (body_at h.len buffer)) reply d
+    → at < MAX_PLACE → CourseTo from c (record { read = read; at = at; out = out; rest = buffer }) → IsWholeOf h buffer → Answers c (frame_with h (body_at h.len buffer)) reply d
     → CourseTo from d (record { read = read; at = at + h.len; out = out ++ reply; rest = drop h.len buffer })
-answered_next from c d read out buffer at h reply upto w e =
+answered_next from c d read out buffer at h reply next upto w e =
     let f = frame_with h (body_at h.len buffer) in
     let said = e.1 upto.situation upto.stands in
-    let one = replied_one from read upto.situation out buffer f (drop h.len buffer) upto.replied w.whole e.0 in
+    let one = replied_one from read upto.situation out buffer f (drop h.len buffer) reply upto.replied w.whole e.0 said.0 in
     record {
       situation = (frame_step readings upto.situation f false).1;
-      replied = subst (λ (l : List ℕ). Replied from read (frame_step readings upto.situation f false).1 (out ++ l) (drop h.len buffer)) said.0 one;
+      replied = one.replied;
+      early = subst (λ (fs : List PipeFrame). BeginEarly 0 fs) (sym one.same) (begin_early_one read upto.replied.frames buffer at f upto.replied.whole upto.place next upto.early);
       stands = said.1;
       place = omega (arith, upto.place, w.most, length-drop h.len buffer);
     }
 
 pub frame_on : (from : Situation) (before now next : Streams) (c d : cores.Database) (buffer : List ℕ) (at : ℕ) (h : Head) (reply : List ℕ)
-    → Running from before now c buffer at → IsWholeOf h buffer → Answers c (frame_with h (body_at h.len buffer)) reply d → now.left ≡ next.left → Appends now.held next.held reply
+    → at < MAX_PLACE → Running from before now c buffer at → IsWholeOf h buffer → Answers c (frame_with h (body_at h.len buffer)) reply d → now.left ≡ next.left → Appends now.held next.held reply
     → Running from before next d (drop h.len buffer) (at + h.len)
-frame_on from before now next c d buffer at h reply is w e keeps grows = record {
+frame_on from before now next c d buffer at h reply early is w e keeps grows = record {
   read = is.read;
   out = is.out ++ reply;
   consumed = subst (λ (left : Option (List ℕ)). Consumes before.left left is.read) keeps is.consumed;
-  answered = answered_next from c d is.read is.out buffer at h reply is.answered w e;
+  answered = answered_next from c d is.read is.out buffer at h reply early is.answered w e;
   written = appends_then before.held now.held next.held is.out reply is.written grows;
 }
 
@@ -102,6 +105,7 @@ same_stands : (from : Situation) (k : Course) (c d : cores.Database) → SameCon
 same_stands from k c d same upto = record {
   situation = upto.situation;
   replied = upto.replied;
+  early = upto.early;
   stands = record {
     state = upto.stands.state ∙ sym same.state;
     out = λ id. upto.stands.out id ∙ ap (λ (ids : List MsgId). is_out id ids) (sym same.out);
@@ -167,7 +171,7 @@ pub fault_ends : (from : Situation) (before now next : Streams) (c d : cores.Dat
 fault_ends from before now next c d buffer at h reply early is w e keeps grows = record {
   course = record { read = is.read; at = at + h.len; out = is.out ++ reply; rest = drop h.len buffer };
   read = subst (λ (left : Option (List ℕ)). Consumes before.left left is.read) keeps is.consumed;
-  answered = answered_next from c d is.read is.out buffer at h reply is.answered w e;
+  answered = answered_next from c d is.read is.out buffer at h reply early is.answered w e;
   written = record {
     at = at;
     rest = buffer;

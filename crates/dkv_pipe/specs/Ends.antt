@@ -14,7 +14,7 @@ use Rattle.dkv_core.specs.Runs.{StandsFor}
 use Rattle.dkv_pipe.specs.declared.pipe.PipeEnd.{PipeEnd}
 use Rattle.dkv_pipe.specs.declared.pipe.PipeEnd.TheVariants as end
 use Rattle.dkv_pipe.specs.declared.sizes.TheConstants.{MAX_PLACE}
-use Rattle.dkv_pipe.specs.Frames.{PipeFrame, Whole, Partial, Refused, front}
+use Rattle.dkv_pipe.specs.Frames.{PipeFrame, Whole, Partial, Refused, front, BeginEarly}
 use Rattle.dkv_pipe.specs.Built.{is_built}
 use Rattle.dkv_pipe.specs.Wishes.{readings}
 use Rattle.dkv_pipe.specs.Pipe.{frame_step}
@@ -41,6 +41,7 @@ pub record Course : Type 0 where
 pub record CourseTo (from : Situation) (to : cores.Database) (c : Course) : Type 0 where
   pub situation : Situation
   pub replied : Replied from c.read situation c.out c.rest
+  pub early : BeginEarly 0 replied.frames
   pub stands : StandsFor situation to
   pub place : length c.read ≡ c.at + length c.rest
 

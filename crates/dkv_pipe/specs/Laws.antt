@@ -1,9 +1,16 @@
--- Laws of the frames at the front of an input, as statements.
-use Rattle.std.specs.Prelude.{◌≡◌, IsTrue, List, [], ℕ, ◌++◌}
+-- Laws of the frames at the front of an input, and of runs, as statements.
+use Rattle.std.specs.Prelude.{◌≡◌, ℕ, ⊤, false, IsTrue, List, [], ◌++◌}
 use Rattle.dkv_base.specs.Fits.{AreBytes}
 use Rattle.dkv_base.specs.Steps.{Situation}
-use Rattle.dkv_pipe.specs.Frames.{PipeFrame, frame_bytes, is_frame, AreFrames, Whole, front, Begins}
+use Rattle.dkv_core.specs.Cores as cores
+use Rattle.dkv_io.specs.Causes.{Rose}
+use Rattle.dkv_pipe.specs.declared.pipe.PipeEnd.{PipeEnd}
+use Rattle.dkv_pipe.specs.declared.pipe.PipeEnd.TheVariants as end
+use Rattle.dkv_pipe.specs.Frames.{PipeFrame, frame_bytes, is_frame, AreFrames, Whole, Refused, front, Begins}
+use Rattle.dkv_pipe.specs.Built.{is_built}
 use Rattle.dkv_pipe.specs.Replied.{Replied}
+use Rattle.dkv_pipe.specs.Ends.{Streams, Ran, HasEndCause}
+use Rattle.dkv_pipe.specs.Whole.{Completes}
 
 -- the bytes of a frame begin with it, whatever follows
 abbrev pub FrameIsFront : Type 0
@@ -22,8 +29,52 @@ FrontIsFrame =
     (bytes rest : List ℕ) (f : PipeFrame) → AreBytes bytes → front bytes ≡ Whole f rest
     → (bytes ≡ frame_bytes f ++ rest) × IsTrue (is_frame f)
 
--- an input that is whole frames has one list of replies, and leads to one situation
+-- what is refused at the front stays refused, whatever follows
+abbrev pub RefusedStays : Type 0
+RefusedStays =
+    (bytes more : List ℕ) → front bytes ≡ Refused → front (bytes ++ more) ≡ Refused
+
+-- so no continuation of it begins with a frame
+abbrev pub BeginsNoFrame : Type 0
+BeginsNoFrame =
+    (bytes more rest : List ℕ) (f : PipeFrame) → front bytes ≡ Refused → IsTrue (is_frame f)
+    → ¬ (bytes ++ more ≡ frame_bytes f ++ rest)
+
+-- ---- one run
+
+-- no frame that is built stands whole at the front
+abbrev pub NoBuilt : List ℕ → Type 0
+NoBuilt rest =
+    (f : PipeFrame) (more : List ℕ) → front rest ≡ Whole f more → is_built f.kind ≡ false
+
+-- bytes that are answered as far as built frames go have one list of replies, lead to one situation, and have one rest
 abbrev pub OneRun : Type 0
 OneRun =
-    (from : Situation) (input : List ℕ) (s t : Situation) (a b : List ℕ)
-    → Replied from input s a [] → Replied from input t b [] → (s ≡ t) × (a ≡ b)
+    (from : Situation) (input : List ℕ) (s t : Situation) (a b rest last : List ℕ)
+    → Replied from input s a rest → NoBuilt rest → Replied from input t b last → NoBuilt last
+    → (s ≡ t) × (a ≡ b) × (rest ≡ last)
+
+-- the end comes of what was read: it is no failed write, and no want of memory
+abbrev pub IsTold : PipeEnd → Type 0
+IsTold end.WriteFault = ⊥
+IsTold end.NoMemory = ⊥
+IsTold _ = ⊤
+
+-- runs that read the same bytes and ended so have one course and lead to one situation
+abbrev pub OneCourse : Type 0
+OneCourse =
+    (d e : PipeEnd) (from : Situation) (b c u v : Streams) (x y : cores.Database)
+    (r : Ran d from b c x) (s : Ran e from u v y)
+    → IsTold d → IsTold e → r.course.read ≡ s.course.read
+    → (r.course ≡ s.course) × (r.answered.situation ≡ s.answered.situation)
+
+-- ---- all of the input
+
+-- a run over whole frames that are built ends at Ok or for want of memory, where no count of faults rose
+abbrev pub Complete : Type 0
+Complete =
+    (e : PipeEnd) (from : Situation) (before after : Streams) (to : cores.Database)
+    (read_old read_new write_old write_new : ℕ)
+    → Ran e from before after to
+    → HasEndCause e after.ended (Rose read_old read_new) (Rose write_old write_new)
+    → Completes e from before after (Rose read_old read_new) (Rose write_old write_new)

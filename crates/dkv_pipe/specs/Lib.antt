@@ -7,5 +7,6 @@ pub mod Built
 pub mod Replied
 pub mod Grants
 pub mod Ends
+pub mod Whole
 pub mod Running
 pub mod Laws

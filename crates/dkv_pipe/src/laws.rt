@@ -1,10 +1,12 @@
-//! Laws of inputs that are whole frames.
+//! Laws of inputs that are whole frames, and of runs.
 
-ghost use Rattle.dkv_pipe.specs.Laws.{FramesBegin, FrontIsFrame, OneRun};
+ghost use Rattle.dkv_pipe.specs.Laws.{BeginsNoFrame, Complete, FramesBegin, FrontIsFrame, OneCourse, OneRun, RefusedStays};
 
-/// An input that is whole frames has one list of replies, and leads to one situation.
+/// Bytes have one list of replies, lead to one situation and have one rest. So runs that read the
+/// same bytes have one course, unless a write failed or memory was wanted.
 pub fn one_run()
-    ensures { OneRun }
+    ensures run { OneRun }
+    ensures course { OneCourse }
 {}
 
 /// An input that is the bytes of whole frames begins with them, and what stands whole at the front
@@ -12,4 +14,16 @@ pub fn one_run()
 pub fn whole_frames_begin()
     ensures begin { FramesBegin }
     ensures front { FrontIsFrame }
+{}
+
+/// What is refused at the front stays refused, whatever follows, and begins no frame.
+pub fn refused_stays()
+    ensures stays { RefusedStays }
+    ensures never { BeginsNoFrame }
+{}
+
+/// A run over whole frames that are built answers all of them, where no count of faults rose and
+/// memory sufficed.
+pub fn whole_frames_are_answered()
+    ensures { Complete }
 {}

@@ -17,6 +17,6 @@ mod reply_status;
 pub mod sizes;
 
 pub use frame_kind::{FrameKind, UnknownKind};
-pub use laws::{one_run, whole_frames_begin};
+pub use laws::{one_run, refused_stays, whole_frames_are_answered, whole_frames_begin};
 pub use pipe::{PipeEnd, run_pipe};
 pub use reply_status::{ReplyStatus, UnknownStatus};

@@ -6,6 +6,7 @@ ghost use Rattle.dkv_io.specs.Causes.{Rose};
 ghost use Rattle.dkv_core.specs.Runs.{situation_of};
 ghost use Rattle.dkv_pipe.specs.Frames.{front, Partial};
 ghost use Rattle.dkv_pipe.specs.Ends.{HasEndCause, Ran, Streams, streams};
+ghost use Rattle.dkv_pipe.specs.Whole.{Completes};
 ghost use Rattle.dkv_pipe.specs.Running.{Running, OnOrEnds, IsWholeOf, to_do};
 
 use crate::answers::{Unanswered, answer};
@@ -174,6 +175,12 @@ pub fn run_pipe<S: Source, K: Sink>(
         result.1 }
     // Told or not: why it ended so.
     ensures cause { HasEndCause result.0 (S.ended source.new)
+        (Rose (S.faults source.old) (S.faults source.new))
+        (Rose (K.faults sink.old) (K.faults sink.new)) }
+    // An input of whole frames that are built is answered to its end, where no count of faults rose.
+    ensures complete { Completes result.0 (situation_of core)
+        (streams (S.left source.old) (S.ended source.old) (K.held sink.old))
+        (streams (S.left source.new) (S.ended source.new) (K.held sink.new))
         (Rose (S.faults source.old) (S.faults source.new))
         (Rose (K.faults sink.old) (K.faults sink.new)) }
 {

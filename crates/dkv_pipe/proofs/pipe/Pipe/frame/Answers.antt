@@ -16,7 +16,7 @@ returns-in-Ok-write-clause-run g c = λ from before left ended is.
     let answered = subst (λ (l : List ℕ). Answers s.core (frame_with h (body_at h.len l)) c.in-Ok.reply c.answer.new.core) c.as_slice.ensures c.in-Ok.ensures.ok in
     let grows = subst (λ (l : List ℕ). Appends old.held new.held l) c.as_slice-2.ensures c.in-Ok-write.ensures.all in
     subst (λ (l : List ℕ). Running from before new c.answer.new.core l (s.at + h.len)) (sym c.skip.ensures)
-    (frame_on from before old new s.core c.answer.new.core s.input s.at h c.in-Ok.reply is c.requires.whole answered refl grows)
+    (frame_on from before old new s.core c.answer.new.core s.input s.at h c.in-Ok.reply c.requires.early is c.requires.whole answered refl grows)
 
 pub returns-clause-run : goal.returns-clause-run
 returns-clause-run g c = λ from before left ended is.
