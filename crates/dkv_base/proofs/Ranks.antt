@@ -1,9 +1,9 @@
 -- How the ranks of two items compare.
-use Rattle.std.proofs.Common.{◌≡◌, true, false, refl, ap, ◌∙◌}
-use Rattle.std.specs.Ordering.{is_lt, is_eq, ordering_reverse}
+use Rattle.std.proofs.Common.{◌≡◌, ℕ, ◌<◌, ◌≤◌, true, false, refl, ap, ◌∙◌, arith}
+use Rattle.std.specs.Ordering.{nat_cmp, is_lt, is_le, is_eq, ordering_reverse, ordering_then, MatchOrdering}
 use Rattle.std.specs.declared.cmp.Ordering.{Ordering}
 use Rattle.std.specs.declared.cmp.Ordering.TheVariants.{Less, Equal, Greater}
-use Rattle.std.specs.Cmp.{IsTotalOrder, alike_right}
+use Rattle.std.specs.Cmp.{IsTotalOrder, alike_right, ranks}
 
 -- a comparison that is less is Less
 pub lt_is : (o : Ordering) → is_lt o ≡ true → o ≡ Less
@@ -55,3 +55,16 @@ module _ {T : Type 0} {cmp : T → T → Ordering} (o : IsTotalOrder cmp) where
 -- what ranks below is not of the same rank
 pub not_eq-above : (r : Ordering) → is_lt r ≡ true → is_eq r ≡ false
 not_eq-above r h = ap is_eq (lt_is r h)
+
+-- what ranks below does not rank above
+pub le-lt : (r : Ordering) → is_lt r ≡ true → is_le r ≡ true
+le-lt r h = ap is_le (lt_is r h)
+
+-- of two that rank by a number first, the one that does not rank above has no greater number
+pub number-le : (a b : ℕ) (rest : Ordering) → is_le (ordering_then (nat_cmp a b) rest) ≡ true → a ≤ b
+number-le a b rest h = by (nat_cmp a b) (ranks a b) h
+  where
+    by : (r : Ordering) → MatchOrdering r (a < b) (a ≡ b) (b < a) → is_le (ordering_then r rest) ≡ true → a ≤ b
+    by Less lt h = omega arith
+    by Equal is h = omega arith
+    by Greater gt h = absurd (cc h)

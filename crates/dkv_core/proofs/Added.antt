@@ -21,7 +21,7 @@ use Rattle.dkv_queue.specs.Rows.{messages_of, row_at, row_cmp, added, has_schedu
 use Rattle.dkv_core.specs.Cores.{is_made_by}
 use Rattle.dkv_core.specs.Rows.{is_above}
 use Rattle.dkv_core.proofs.OneCommit.{same_id-turned}
-use Rattle.dkv_core.proofs.Rows.{lt-other}
+use Rattle.dkv_base.proofs.IdOrder.{id_above}
 
 row_total : IsTotalOrder row_cmp
 row_total = then_total (on_total (λ r. r.message.id.commit) nat_cmp_total) (on_total (λ r. r.message.id.index) nat_cmp_total)
@@ -49,7 +49,7 @@ pub absent : (m : Message) (rows : List Row) → is_above (messages_of rows) m �
 absent m [] above = refl
 absent m (r ∷ rows) above =
     let parts = and_parts (is_lt (id_cmp r.message.id m.id)) _ above in
-    (λ i. cond ((same_id-turned m.id r.message.id ∙ lt-other r.message.id m.id parts.0) i) (Some r) (row_at m.id rows)) ∙ absent m rows parts.1
+    (λ i. cond ((same_id-turned m.id r.message.id ∙ id_above r.message.id m.id parts.0) i) (Some r) (row_at m.id rows)) ∙ absent m rows parts.1
 
 pub messages-added : (m : Message) (rows : List Row) → is_above (messages_of rows) m ≡ true → messages_of (added m rows) ≡ messages_of rows ++ m ∷ []
 messages-added m rows above = ap messages_of (added-last m rows above) ∙ map-append (λ r. r.message) rows (new_row m ∷ [])

@@ -5,15 +5,14 @@ use Rattle.std.specs.List.{list_any, list_all, cons_option}
 use Rattle.std.specs.Option.{option_map_or}
 use Rattle.std.specs.Ordering.{is_lt}
 use Rattle.std.proofs.lemmas.Bool.{and_parts, false≢true}
-use Rattle.std.proofs.lemmas.Cmp.{tied_itself}
-use Rattle.std.specs.Cmp.{IsTotalOrder, then_total, on_total, nat_cmp_total}
 use Rattle.dkv_base.specs.declared.types.Message.{Message}
 use Rattle.dkv_base.specs.declared.types.MsgId.{MsgId}
 use Rattle.dkv_base.specs.Messages.{exhausted, is_out}
 use Rattle.dkv_base.specs.State.{same_id, id_cmp, is_in_id_order}
+use Rattle.dkv_base.proofs.IdOrder.{id_above}
 use Rattle.dkv_base.proofs.NamedMessages.{same_id-true}
 use Rattle.dkv_queue.specs.declared.row.Row.{Row}
-use Rattle.dkv_queue.specs.Rows.{messages_of, is_row_of, is_row_out, waits, message_at, handed_out, settled, failed, after_failure as row_after_failure, with_failure, out_of}
+use Rattle.dkv_queue.specs.Rows.{messages_of, is_row_of, is_row_out, waits, message_at, handed_out, rows_without, failed, after_failure as row_after_failure, with_failure, out_of}
 use Rattle.dkv_queue.proofs.Laws.{out-rows}
 use Rattle.dkv_core.specs.Settling.{without_id, is_last_failure, after_ack, after_failure, after_settlement, out_after}
 use Rattle.dkv_core.specs.Rows.{settled_rows}
@@ -89,10 +88,10 @@ out-more_taken id k rows w =
 
 -- ---- a message that is settled
 
-messages-settled : (id : MsgId) (rows : List Row) → messages_of (settled id rows) ≡ after_ack id (messages_of rows)
+messages-settled : (id : MsgId) (rows : List Row) → messages_of (rows_without id rows) ≡ after_ack id (messages_of rows)
 messages-settled id [] = refl
 messages-settled id (r ∷ rows) =
-    elim (is_row_of id r) as (λ b. messages_of (cond (not b) (r ∷ settled id rows) (settled id rows)) ≡ cond (not b) (r.message ∷ after_ack id (messages_of rows)) (after_ack id (messages_of rows))) [
+    elim (is_row_of id r) as (λ b. messages_of (cond (not b) (r ∷ rows_without id rows) (rows_without id rows)) ≡ cond (not b) (r.message ∷ after_ack id (messages_of rows)) (after_ack id (messages_of rows))) [
       | true ↦ messages-settled id rows
       | false ↦ ap (λ ms. r.message ∷ ms) (messages-settled id rows)
     ]
@@ -117,7 +116,7 @@ messages-failed id at (r ∷ rows) =
 pub messages-after : (t : Option Settled) (at : ℕ) (rows : List Row) → messages_of (settled_rows t at rows) ≡ after_settlement t at (messages_of rows)
 messages-after None at rows = refl
 messages-after (Some t) at rows =
-    elim t.done as (λ b. messages_of (cond b (settled t.id rows) (failed t.id at rows)) ≡ cond b (after_ack t.id (messages_of rows)) (after_failure t.id at (messages_of rows))) [
+    elim t.done as (λ b. messages_of (cond b (rows_without t.id rows) (failed t.id at rows)) ≡ cond b (after_ack t.id (messages_of rows)) (after_failure t.id at (messages_of rows))) [
       | true ↦ messages-settled t.id rows
       | false ↦ messages-failed t.id at rows
     ]
@@ -128,16 +127,16 @@ ids rows = map (λ r. r.message.id) rows
 abbrev outs : List Row → List Row
 outs rows = filter (λ r. r.out) rows
 
-out-settled : (id : MsgId) (rows : List Row) → out_of (settled id rows) ≡ without_id id (out_of rows)
+out-settled : (id : MsgId) (rows : List Row) → out_of (rows_without id rows) ≡ without_id id (out_of rows)
 out-settled id [] = refl
 out-settled id (r ∷ rows) =
     let rest = out-settled id rows in
-    elim (is_row_of id r) as (λ b. is_row_of id r ≡ b → ids (outs (cond (not b) (r ∷ settled id rows) (settled id rows))) ≡ without_id id (ids (cond r.out (r ∷ outs rows) (outs rows)))) [
+    elim (is_row_of id r) as (λ b. is_row_of id r ≡ b → ids (outs (cond (not b) (r ∷ rows_without id rows) (rows_without id rows))) ≡ without_id id (ids (cond r.out (r ∷ outs rows) (outs rows)))) [
       | true ↦ λ is. rest ∙ elim r.out as (λ t. without_id id (out_of rows) ≡ without_id id (ids (cond t (r ∷ outs rows) (outs rows)))) [
         | true ↦ λ i. cond (not (sym (same_id-turned r.message.id id ∙ is) i)) (r.message.id ∷ without_id id (out_of rows)) (without_id id (out_of rows))
         | false ↦ refl
       ]
-      | false ↦ λ is. elim r.out as (λ t. ids (cond t (r ∷ outs (settled id rows)) (outs (settled id rows))) ≡ without_id id (ids (cond t (r ∷ outs rows) (outs rows)))) [
+      | false ↦ λ is. elim r.out as (λ t. ids (cond t (r ∷ outs (rows_without id rows)) (outs (rows_without id rows))) ≡ without_id id (ids (cond t (r ∷ outs rows) (outs rows)))) [
         | true ↦ ap (λ ks. r.message.id ∷ ks) rest ∙ (λ i. cond (not (sym (same_id-turned r.message.id id ∙ is) i)) (r.message.id ∷ without_id id (out_of rows)) (without_id id (out_of rows)))
         | false ↦ rest
       ]
@@ -165,7 +164,7 @@ out-failed id at (r ∷ rows) =
 pub out-after : (t : Option Settled) (at : ℕ) (rows : List Row) → out_of (settled_rows t at rows) ≡ out_after t (out_of rows)
 out-after None at rows = refl
 out-after (Some t) at rows =
-    elim t.done as (λ b. out_of (cond b (settled t.id rows) (failed t.id at rows)) ≡ without_id t.id (out_of rows)) [
+    elim t.done as (λ b. out_of (cond b (rows_without t.id rows) (failed t.id at rows)) ≡ without_id t.id (out_of rows)) [
       | true ↦ out-settled t.id rows
       | false ↦ out-failed t.id at rows
     ]
@@ -181,22 +180,12 @@ find-message id (r ∷ rows) = elim (is_row_of id r) as (λ b. option_map (λ s.
   | false ↦ find-message id rows
 ]
 
-id_total : IsTotalOrder id_cmp
-id_total = then_total (on_total (λ i. i.commit) nat_cmp_total) (on_total (λ i. i.index) nat_cmp_total)
-
-pub lt-other : (a b : MsgId) → is_lt (id_cmp a b) ≡ true → same_id a b ≡ false
-lt-other a b lt =
-    elim (same_id a b) as (λ t. same_id a b ≡ t → t ≡ false) [
-      | true ↦ λ same. absurd (false≢true (sym (ap is_lt (tied_itself id_total b)) ∙ ap (λ x. is_lt (id_cmp x b)) (sym (same_id-true a b same)) ∙ lt))
-      | false ↦ λ other. refl
-    ] refl
-
 -- behind a message no other has its id
 none_behind : (m : Message) (t : Message → Bool) (ms : List Message) → list_all (λ k. is_lt (id_cmp m.id k.id)) ms ≡ true → find (λ k. same_id m.id k.id && t k) ms ≡ None
 none_behind m t [] above = refl
 none_behind m t (k ∷ ms) above =
     let parts = and_parts (is_lt (id_cmp m.id k.id)) _ above in
-    (λ i. cond (lt-other m.id k.id parts.0 i && t k) (Some k) (find (λ x. same_id m.id x.id && t x) ms)) ∙ none_behind m t ms parts.1
+    (λ i. cond (id_above m.id k.id parts.0 i && t k) (Some k) (find (λ x. same_id m.id x.id && t x) ms)) ∙ none_behind m t ms parts.1
 
 abbrev if_so : (Message → Bool) → Option Message → Option Message
 if_so t None = None
@@ -232,7 +221,7 @@ none_taken : (m : Message) (rows : List Row) → list_all (λ k. is_lt (id_cmp m
 none_taken m [] above = refl
 none_taken m (r ∷ rows) above =
     let parts = and_parts (is_lt (id_cmp m.id r.message.id)) _ above in
-    (λ i. lt-other m.id r.message.id parts.0 i && r.out || is_row_out m.id rows) ∙ none_taken m rows parts.1
+    (λ i. id_above m.id r.message.id parts.0 i && r.out || is_row_out m.id rows) ∙ none_taken m rows parts.1
 
 pub waits_free : (id : MsgId) (rows : List Row) → is_in_id_order (messages_of rows) ≡ true → waits id rows ≡ true → is_row_out id rows ≡ false
 waits_free id [] order w = refl
@@ -254,7 +243,7 @@ waits_free id (r ∷ rows) order w =
     no_waits x [] h same above = refl
     no_waits x (s ∷ rs) h same above =
         let ps = and_parts (is_lt (id_cmp r.message.id s.message.id)) _ above in
-        let off : is_row_of x s ≡ false = ap (λ y. same_id y s.message.id) (same_id-true x r.message.id same) ∙ lt-other r.message.id s.message.id ps.0 in
+        let off : is_row_of x s ≡ false = ap (λ y. same_id y s.message.id) (same_id-true x r.message.id same) ∙ id_above r.message.id s.message.id ps.0 in
         (λ i. off i && not s.out || waits x rs) ∙ no_waits x rs ((λ i. sym off i && s.out || is_row_out x rs) ∙ h) same ps.1
 
 pub waits_there : (id : MsgId) (rows : List Row) → waits id rows ≡ true → list_any (λ m. same_id id m.id) (messages_of rows) ≡ true

@@ -18,7 +18,7 @@ use Rattle.dkv_core.specs.Settling.{after_settlement}
 use Rattle.dkv_core.specs.declared.prepared.Settled.{Settled}
 
 -- how many entries, how many that end, and how many messages find room without memory
-pub record Room : Type 0 where
+pub record SpareRoom : Type 0 where
   pub entries : ℕ
   pub endings : ℕ
   pub messages : ℕ
@@ -28,7 +28,7 @@ pub record Database : Type 0 where
   pub state : State
   pub out : List MsgId
   pub greatest : ℕ
-  pub room : Room
+  pub room : SpareRoom
 
 -- the number and the moment of a commit, the entries that it stores, the keys that it takes away, the messages that it makes, and what it settles
 pub record Change : Type 0 where
@@ -46,7 +46,7 @@ pub record SameContent (c d : Database) : Type 0 where
   pub greatest : d.greatest ≡ c.greatest
 
 -- there is no less of it
-pub record IsNoLess (r s : Room) : Type 0 where
+pub record IsNoLess (r s : SpareRoom) : Type 0 where
   pub entries : r.entries ≤ s.entries
   pub endings : r.endings ≤ s.endings
   pub messages : r.messages ≤ s.messages

@@ -11,7 +11,8 @@ use Rattle.dkv_base.proofs.Lists.{all_weaker}
 use Rattle.dkv_expiry.specs.declared.ending.Ending.{Ending}
 use Rattle.dkv_expiry.specs.Endings.{ending_cmp, ending, same_ending, noted, dropped, first_upto, has}
 use Rattle.dkv_expiry.specs.Laws.{FirstIsLeast}
-use Rattle.dkv_expiry.proofs.Order.{ending_total, ties, no_earlier, le-lt, le-eq}
+use Rattle.dkv_base.proofs.Ranks.{le-lt, number-le}
+use Rattle.dkv_expiry.proofs.Order.{ending_total, ties, le-eq}
 
 -- what is among them is found
 pub has-found : (q : Ending) (ps : List Ending) → has q ps ≡ is_some (found ending_cmp q ps)
@@ -69,7 +70,7 @@ late-first at [] p rising is late = refl
 late-first at (e ∷ es) p rising is late =
     let same : e ≡ p = cc is in
     let behind : at < e.at = rw same late in
-    none at (e ∷ es) (and_from _ _ (lt-ltb at e.at behind) (all_weaker _ _ (λ q h. let above = no_earlier e q h in lt-ltb at q.at (omega arith)) es (and_parts _ _ rising).0))
+    none at (e ∷ es) (and_from _ _ (lt-ltb at e.at behind) (all_weaker _ _ (λ q h. let above = number-le e.at q.at _ (le-lt _ h) in lt-ltb at q.at (omega arith)) es (and_parts _ _ rising).0))
 
 -- where there is none up to the moment, each one is later
 pub upto-none : (at : ℕ) (ps : List Ending) → first_upto at ps ≡ None → (q : Ending) → has q ps ≡ true → at < q.at

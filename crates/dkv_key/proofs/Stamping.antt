@@ -1,16 +1,16 @@
 -- Versionstamps compare as commit numbers, their digits are those of `hex`, and a suffix is a text.
 use Rattle.std.proofs.Common.{◌≡◌, ◌≢◌, ℕ, zero, suc, ◌+◌, ◌/◌, ◌%◌, ◌^◌, ◌<◌, ◌==◌, ◌&&◌, Bool, true, false, cond, inl, inr, List, [], ◌∷◌, ◌++◌, refl, sym, ap, ◌∙◌, arith}
 use Rattle.std.specs.Prelude.{nat_lt, slice_index}
-use Rattle.std.specs.Int.{w64, to_be_bytes, from_be_bytes, byte_at, bytes_high_first}
+use Rattle.std.specs.Int.{w64, to_be_bytes, from_be_bytes}
 use Rattle.std.specs.Ordering.{nat_cmp, ordering_then}
 use Rattle.std.specs.declared.cmp.Ordering.{Ordering}
 use Rattle.std.specs.declared.cmp.Ordering.TheVariants.{Less, Equal, Greater}
-use Rattle.std.proofs.lemmas.Nat.{from_be_bytes-to_be_bytes_8, mod_below}
+use Rattle.std.proofs.lemmas.Nat.{from_be_bytes-to_be_bytes_8}
 use Rattle.std.proofs.lemmas.Bool.{and_parts, cases_lt, eqb-true}
 use Rattle.hex.specs.Hex.{IsBytes, encode_lower, encode_with, lower_digits}
 use Rattle.dkv_base.specs.State.{key_cmp}
 use Rattle.dkv_base.specs.Stamps.{stamp, hex_digit, hex_digits, suffix}
-use Rattle.dkv_base.proofs.ByteLists.{below_tail}
+use Rattle.dkv_base.proofs.ByteLists.{below_tail, below_written}
 use Rattle.dkv_key.specs.declared.part.Part.TheVariants as part
 use Rattle.dkv_key.specs.Parts.{escaped, spelling, number}
 use Rattle.dkv_key.proofs.Orders.{same_length}
@@ -27,19 +27,6 @@ then_equal Greater = refl
 number_of_8 : (a b c d e f g h : ℕ) → let bytes : List ℕ = a ∷ b ∷ c ∷ d ∷ e ∷ f ∷ g ∷ h ∷ [] in number bytes ≡ from_be_bytes w64 bytes
 number_of_8 a b c d e f g h = omega arith
 
--- the bytes of a number, and of a stamp, are bytes
-each_byte : (n : ℕ) → IsBytes (to_be_bytes w64 n)
-each_byte n i = bytes_fit 8 n i
-  where
-    byte_fits : (i n : ℕ) → byte_at i n < 256
-    byte_fits zero n = mod_below n 256 (omega arith)
-    byte_fits (suc i) n = mod_below (n / 256 ^ suc i) 256 (omega arith)
-
-    bytes_fit : (k n : ℕ) → IsBytes (bytes_high_first k n)
-    bytes_fit zero n i = omega arith
-    bytes_fit (suc k) n zero = byte_fits k n
-    bytes_fit (suc k) n (suc i) = bytes_fit k n i
-
 -- the bytes of a number write it
 number_is : (n : ℕ) → n < 2 ^ 64 → number (to_be_bytes w64 n) ≡ n
 number_is n lt = number_of_8 _ _ _ _ _ _ _ _ ∙ from_be_bytes-to_be_bytes_8 n lt
@@ -49,7 +36,7 @@ pub stamps_order : (n m : ℕ) → n < 2 ^ 64 → m < 2 ^ 64 → key_cmp (stamp 
 stamps_order n m f g =
     same_length (to_be_bytes w64 n) (to_be_bytes w64 m) (0 ∷ 0 ∷ []) (0 ∷ 0 ∷ []) refl
     ∙ then_equal (key_cmp (to_be_bytes w64 n) (to_be_bytes w64 m))
-    ∙ sym (number_order (to_be_bytes w64 n) (to_be_bytes w64 m) (each_byte n) (each_byte m) refl)
+    ∙ sym (number_order (to_be_bytes w64 n) (to_be_bytes w64 m) (below_written 8 n) (below_written 8 m) refl)
     ∙ (λ i. nat_cmp (number_is n f i) (number_is m g i))
 
 -- no digit is 0
@@ -98,7 +85,7 @@ digits_are (b ∷ bytes) all =
 
 -- the bytes of a stamp are bytes
 pub stamp_bytes : (n : ℕ) → IsBytes (stamp n)
-stamp_bytes n i = each_stamp (to_be_bytes w64 n) (each_byte n) i
+stamp_bytes n i = each_stamp (to_be_bytes w64 n) (below_written 8 n) i
   where
     each_stamp : (bytes : List ℕ) → IsBytes bytes → IsBytes (bytes ++ 0 ∷ 0 ∷ [])
     each_stamp [] all zero = omega arith

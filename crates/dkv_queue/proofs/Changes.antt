@@ -10,10 +10,11 @@ use Rattle.dkv_base.specs.Ordered.{put_in, left_out, is_rising}
 use Rattle.dkv_base.proofs.Ranks.{greater}
 use Rattle.dkv_base.proofs.RankedLists.{put_in-above, left_out-above}
 use Rattle.dkv_queue.specs.declared.row.Row.{Row}
-use Rattle.dkv_queue.specs.Rows.{row_cmp, is_row_of, row_at, handed_out, settled, failed, after_failure}
+use Rattle.dkv_queue.specs.Rows.{row_cmp, is_row_of, row_at, handed_out, rows_without, failed, after_failure}
 use Rattle.dkv_queue.specs.Kept.{row_for}
 use Rattle.dkv_base.proofs.NamedMessages.{same_id-true}
-use Rattle.dkv_queue.proofs.Ids.{row_total, id_ties, not_above}
+use Rattle.dkv_base.proofs.IdOrder.{id_ties}
+use Rattle.dkv_queue.proofs.Ids.{row_total, not_above}
 use Rattle.dkv_queue.proofs.Looks.{row_at-of}
 
 -- what is left where a row is taken out and another is put in, or none is
@@ -84,7 +85,7 @@ revised-row h id (s ∷ rows) r o rising is gives own = by (is_row_of id s) refl
         ∙ ap (λ xs. s ∷ xs) (rest there gives own)
         ∙ sym (λ i. cons_option (cond (not_of i) (h s) (Some s)) (revised h id rows))
 
-pub left_out-settled : (id : MsgId) (rows : List Row) → left_out row_cmp (row_for id) rows ≡ settled id rows
+pub left_out-settled : (id : MsgId) (rows : List Row) → left_out row_cmp (row_for id) rows ≡ rows_without id rows
 left_out-settled id rows = filter_agree _ _ (λ r. ap not (id_ties id r.message.id)) rows
 
 -- the row is out

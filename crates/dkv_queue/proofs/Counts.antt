@@ -10,7 +10,7 @@ use Rattle.dkv_base.specs.Ordered.{put_in, left_out, is_rising}
 use Rattle.dkv_queue.specs.declared.row.Row.{Row}
 use Rattle.dkv_queue.specs.Rows.{row_cmp, is_row_of, row_at, out_rows}
 use Rattle.dkv_queue.specs.Kept.{row_for}
-use Rattle.dkv_queue.proofs.Ids.{id_ties}
+use Rattle.dkv_base.proofs.IdOrder.{id_ties}
 use Rattle.dkv_queue.proofs.Changes.{left_out-first, left_out-behind}
 
 -- the order of two rows doesn't count

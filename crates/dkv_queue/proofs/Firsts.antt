@@ -3,18 +3,17 @@ use Rattle.std.proofs.Common.{All, Contains, ◌≡◌, ℕ, ◌<◌, ◌≤◌,
 use Rattle.std.specs.Prelude.{slice_get}
 use Rattle.std.specs.List.{list_all, list_any}
 use Rattle.std.specs.Option.{option_map_or}
-use Rattle.std.specs.Cmp.{ranks}
-use Rattle.std.specs.Ordering.{nat_cmp, is_eq, is_lt, is_le, ordering_then, ordering_reverse, MatchOrdering}
+use Rattle.std.specs.Ordering.{is_eq, is_lt, is_le, ordering_reverse}
 use Rattle.std.specs.declared.cmp.Ordering.{Ordering}
 use Rattle.std.specs.declared.cmp.Ordering.TheVariants.{Less, Equal, Greater}
 use Rattle.std.proofs.lemmas.Bool.{and_parts, and_from, or_left, or_right, le-leb, lt-leb, eqb-true, eq-eqb}
 use Rattle.std.proofs.lemmas.Cmp.{tied_itself, tied_back}
 use Rattle.std.proofs.lemmas.List.Elements.{All-head, All-tail, All-map, All-filter, All-weaker, All-contains_itself}
 use Rattle.dkv_base.specs.declared.types.Message.{Message}
-use Rattle.dkv_base.specs.State.{id_cmp, same_id}
+use Rattle.dkv_base.specs.State.{same_id}
 use Rattle.dkv_base.specs.Messages.{first_due, is_before, is_out}
 use Rattle.dkv_base.specs.Ordered.{found, is_rising}
-use Rattle.dkv_base.proofs.Ranks.{eq_is, lt_eq}
+use Rattle.dkv_base.proofs.Ranks.{eq_is, lt_eq, number-le}
 use Rattle.dkv_base.proofs.Lists.{all_at, all-filter}
 use Rattle.dkv_queue.specs.declared.row.Row.{Row}
 use Rattle.dkv_queue.specs.declared.moment.DueAt.{DueAt}
@@ -165,15 +164,6 @@ listed e dues = ap (λ b. is_some (cond b (Some e) (found due_cmp e dues))) (ap 
 some-waits : (rows : List Row) (e : DueAt) (dues : List DueAt) → is_rising row_cmp rows ≡ true → IsLinked rows (e ∷ dues) → list_any (λ m. is_eq (due_cmp e (due_of m))) (waiting_of rows) ≡ true
 some-waits rows e dues rising linked = any-waiting e rows rising ∙ sym (linked e) ∙ listed e dues
 
--- what isn't below in rank is no earlier
-no_earlier : (d e : DueAt) → is_le (due_cmp d e) ≡ true → d.due ≤ e.due
-no_earlier d e h = by (nat_cmp d.due e.due) (ranks d.due e.due) h
-  where
-    by : (r : Ordering) → MatchOrdering r (d.due < e.due) (d.due ≡ e.due) (e.due < d.due) → is_le (ordering_then r (id_cmp d.id e.id)) ≡ true → d.due ≤ e.due
-    by Less lt h = omega arith
-    by Equal is h = omega arith
-    by Greater gt h = absurd (cc h)
-
 -- the message that is due first is the message of its id
 pub due-found : (at : ℕ) (rows : List Row) (m : Message) → is_rising row_cmp rows ≡ true → due_at at rows ≡ Some m → message_at m.id rows ≡ Some m
 due-found at rows m rising first =
@@ -237,7 +227,7 @@ later-due at rows e dues rising order linked late =
     none [] all = refl
     none (m ∷ ms) all =
         let parts = and_parts (is_le (due_cmp e (due_of m))) (list_all (λ k. is_le (due_cmp e (due_of k))) ms) all in
-        let no_sooner : e.due ≤ m.due = no_earlier e (due_of m) parts.0 in
+        let no_sooner : e.due ≤ m.due = number-le e.due m.due _ parts.0 in
         let not_yet : nat_le m.due at ≡ false = lt-leb m.due at (omega arith) in
         (λ i. cond (not_yet i) (m ∷ filter (λ k. nat_le k.due at) ms) (filter (λ k. nat_le k.due at) ms)) ∙ none ms parts.1
 

@@ -16,7 +16,8 @@ use Rattle.dkv_queue.specs.Rows.{row_cmp, is_row_of, row_at, messages_of, is_row
 use Rattle.dkv_queue.specs.Kept.{row_for}
 use Rattle.dkv_queue.proofs.Laws.{out-rows}
 use Rattle.dkv_base.proofs.NamedMessages.{same_id-true}
-use Rattle.dkv_queue.proofs.Ids.{row_total, id_ties, not_above}
+use Rattle.dkv_base.proofs.IdOrder.{id_ties}
+use Rattle.dkv_queue.proofs.Ids.{row_total, not_above}
 
 find_agree : {X : Type 0} (p q : X → Bool) → ((x : X) → p x ≡ q x) → (xs : List X) → find p xs ≡ find q xs
 find_agree p q same [] = refl

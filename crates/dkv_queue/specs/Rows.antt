@@ -5,7 +5,7 @@
 --     out_of rows, situation_of rows      the ids of the messages that are out; the database that the rows speak of
 --     waiting_of rows, due_at at rows      the messages that aren't out; the one that is due first, if it is due
 --     next_row id rows      the first row above an id, or the first of all
---     added m rows, handed_out id rows, settled id rows, failed id at rows      the rows after each change
+--     added m rows, handed_out id rows, rows_without id rows, failed id at rows      the rows after each change
 --     has_schedule m      whether the message has a schedule, and has not failed more often than that is long
 use Rattle.std.specs.Prelude.{ℕ, ◌+◌, Bool, true, false, not, ◌&&◌, nat_le, ◌==◌, if◌then◌else◌, List, length, map, filter, filter_map, find, Option, Some, None, option_map}
 use Rattle.std.specs.Option.{option_map_or}
@@ -87,8 +87,8 @@ abbrev pub handed_out : MsgId → List Row → List Row
 handed_out id rows = map (λ r. if is_row_of id r then record r { out = true } else r) rows
 
 -- without the message of the id
-abbrev pub settled : MsgId → List Row → List Row
-settled id rows = filter (λ r. not (is_row_of id r)) rows
+abbrev pub rows_without : MsgId → List Row → List Row
+rows_without id rows = filter (λ r. not (is_row_of id r)) rows
 
 -- it failed once more, and is due an interval later
 abbrev pub with_failure : ℕ → Message → Message

@@ -4,7 +4,7 @@ ghost use Rattle.std.specs.Option.{option_copied};
 ghost use Rattle.std.specs.List.{list_all};
 ghost use Rattle.dkv_base.specs.State.{is_in_id_order};
 ghost use Rattle.dkv_base.specs.Moments.{capped_moment};
-ghost use Rattle.dkv_queue.specs.Rows.{messages_of, message_at, row_at, is_row_out, waits, next_row, added, handed_out, settled, failed, has_schedule};
+ghost use Rattle.dkv_queue.specs.Rows.{messages_of, message_at, row_at, is_row_out, waits, next_row, added, handed_out, rows_without, failed, has_schedule};
 ghost use Rattle.dkv_queue.specs.Answers.{IsDue, IsRetry};
 
 use crate::failing::fail;
@@ -134,7 +134,7 @@ impl Queue {
     /// Takes away a message that was handled. Takes no memory.
     pub fn settle(&mut self, id: MsgId)
         requires { IsTrue (is_row_out id self.old.rows) }
-        ensures rows { self.new.rows ≡ settled id self.old.rows }
+        ensures rows { self.new.rows ≡ rows_without id self.old.rows }
         ensures kept { self.old.spare ≤ self.new.spare }
     {
         let _ = self.rows.take(&id);

@@ -1,31 +1,20 @@
 -- A text ends at e exactly where it is the token that ends at e; so a token names one expiry.
-use Rattle.std.proofs.Common.{ℕ, zero, suc, ◌≡◌, ◌<◌, refl, sym, ap, ◌∙◌, true, List, [], ◌∷◌, append_assoc, take, drop, arith, inl, inr, Some, None, Result, Ok, Err}
-use Rattle.std.specs.Prelude.{bytes_eq, slice_range, ◌^◌, ◌/◌}
-use Rattle.std.specs.Int.{w64, to_be_bytes, from_be_bytes, byte_at, bytes_high_first}
+use Rattle.std.proofs.Common.{ℕ, ◌≡◌, ◌<◌, refl, sym, ap, ◌∙◌, true, List, [], ◌∷◌, append_assoc, take, drop, arith, inl, inr, Some, None, Result, Ok, Err}
+use Rattle.std.specs.Prelude.{bytes_eq, slice_range, ◌^◌}
+use Rattle.std.specs.Int.{w64, to_be_bytes, from_be_bytes}
 use Rattle.std.specs.Result.{result_unwrap_or}
 use Rattle.std.proofs.lemmas.List.{take-append-le, take_all}
 use Rattle.std.proofs.lemmas.Bool.{cases_Bool}
-use Rattle.std.proofs.lemmas.Nat.{from_be_bytes-to_be_bytes_8, mod_below}
+use Rattle.std.proofs.lemmas.Nat.{from_be_bytes-to_be_bytes_8}
 use Rattle.std.proofs.lemmas.Slice.Eq.{bytes_eq-Decides}
 use Rattle.hex.specs.Hex.{encode_lower, decode_of, lower_digits, IsBytes}
 use Rattle.hex.specs.declared.error.FromHexError.{FromHexError}
 use Rattle.hex.proofs.HexLemmas.{decode_of-encode_lower, decode_of-ok, length-encode_with}
+use Rattle.dkv_base.proofs.ByteLists.{below_written}
 use Rattle.dkv_token.specs.declared.site.Site.{Site}
 use Rattle.dkv_token.specs.declared.token.TheConstants.{DOT, EXPIRY_START, EXPIRY_END}
 use Rattle.dkv_token.specs.Mac.{hmac}
 use Rattle.dkv_token.specs.Token.{prefix, sign, signed_message, IsToken, number_of_digits, written_expiry, token_expiry, TokensAreExact}
-
-byte_is : (i n : ℕ) → byte_at i n < 256
-byte_is zero n = mod_below n 256 (omega arith)
-byte_is (suc i) n = mod_below (n / 256 ^ suc i) 256 (omega arith)
-
-each : (k n : ℕ) → IsBytes (bytes_high_first k n)
-each zero n i = omega arith
-each (suc k) n zero = byte_is k n
-each (suc k) n (suc i) = each k n i
-
-are_bytes : (e : ℕ) → IsBytes (to_be_bytes w64 e)
-are_bytes e = each 8 e
 
 -- bytes 5 to 20 of a token are the digits of its expiry
 digits_there : (site : Site) (e : ℕ) → slice_range (sign site e) EXPIRY_START EXPIRY_END ≡ encode_lower (to_be_bytes w64 e)
@@ -41,7 +30,7 @@ digits_there site e =
 pub expiry_there : (site : Site) (e : ℕ) → e < 2 ^ 64 → written_expiry (sign site e) ≡ e
 expiry_there site e fits =
     ap number_of_digits (digits_there site e)
-    ∙ ap (λ r. from_be_bytes w64 (result_unwrap_or r [])) (decode_of-encode_lower (to_be_bytes w64 e) (are_bytes e))
+    ∙ ap (λ r. from_be_bytes w64 (result_unwrap_or r [])) (decode_of-encode_lower (to_be_bytes w64 e) (below_written 8 e))
     ∙ from_be_bytes-to_be_bytes_8 e fits
 
 -- bytes write a number of 64 bits
