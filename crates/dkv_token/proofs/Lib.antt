@@ -1,4 +1,3 @@
-mod Rows
 pub mod Bits
 pub mod Exact
 pub mod Shape

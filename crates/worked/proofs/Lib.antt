@@ -11,3 +11,4 @@ mod FullTerms
 mod Spelled
 mod Bodies
 mod Pipe
+mod Tokens

@@ -1,4 +1,4 @@
--- The definitions on cases from outside, by computing: RFC 4231, and a token that OpenSSL signed.
+-- Tokens and their signatures on cases from outside: RFC 4231, and a token that OpenSSL signed.
 use Rattle.std.proofs.Common.{◌≡◌, ◌-◌, refl, [], ◌∷◌, ◌++◌, Some, None, codes, true, false}
 use Rattle.std.specs.Prelude.{replicate, slice_set}
 use Rattle.sha2.specs.Sha256.{compress, digest_bytes, first_words, hash_after, rounds, schedule, sha256}
