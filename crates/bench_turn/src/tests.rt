@@ -5,10 +5,13 @@ ghost use Rattle.dkv_turn.specs.Words.{IsOf};
 ghost use Rattle.bench_turn.specs.Free.{IsFree};
 
 use crate::by_turn::{mark, tally_of};
+use crate::load::Load;
 use crate::tally::Tally;
 use dkv_turn::{Pass, Turn};
 use std::alloc::Global;
 use std::sync::Wait;
+use std::thread::Threads;
+use std::time::Clock;
 
 const LAST_MOMENT: u64 = 253_370_764_800_000;
 
@@ -26,13 +29,42 @@ fn count_of(tally: &Tally, who: u32) -> usize {
     tally.marks.iter().filter(|m| **m == who).count()
 }
 
-#[test]
-fn each_of_two_threads_adds_its_own(rt: HostRuntime) {
-    let Some(tally) = tally_of(&rt, rt.alloc(), 1, 200) else {
-        panic!(rt; "no memory")
+// How many items the threads added in all, the first of them, and the last.
+fn counts_of<R: Threads + Wait + Clock + Sync>(
+    rt: &R,
+    alloc: Global,
+    threads: u32,
+    load: Load,
+) -> [usize; 3] {
+    let last = threads.saturating_sub(1);
+    let Some(tally) = tally_of(rt, alloc, last, load) else {
+        return [0; 3];
     };
-    let counts = (tally.marks.len(), count_of(&tally, 0), count_of(&tally, 1));
-    assert_eq!(rt; counts, (400, 200, 200));
+    [
+        tally.marks.len(),
+        count_of(&tally, 0),
+        count_of(&tally, last),
+    ]
+}
+
+const SHORT: Load = Load {
+    rounds: 5_000,
+    hold: 0,
+};
+
+const LONG: Load = Load {
+    rounds: 20,
+    hold: 50,
+};
+
+#[test]
+fn each_of_many_threads_adds_its_own_and_none_sleeps_on(rt: HostRuntime) {
+    let two = counts_of(&rt, rt.alloc(), 2, SHORT);
+    let short = counts_of(&rt, rt.alloc(), 32, SHORT);
+    let long = counts_of(&rt, rt.alloc(), 32, LONG);
+    assert_eq!(rt; two, [10_000, 5_000, 5_000]);
+    assert_eq!(rt; short, [160_000, 5_000, 5_000]);
+    assert_eq!(rt; long, [640, 20, 20]);
 }
 
 #[test]
@@ -88,8 +120,8 @@ fn a_pass_that_took_the_first_one_in_splits_on(rt: HostRuntime) {
     let Ok(mut two) = turn.split(&mut one) else {
         unreachable!()
     };
-    mark(&rt, &turn, &mut two);
-    mark(&rt, &turn, &mut one);
+    mark(&rt, &turn, &mut two, SHORT);
+    mark(&rt, &turn, &mut one, SHORT);
     let last = joined(&turn, two, one);
     let tally = turn.close(last);
     assert_eq!(rt; tally.marks.as_slice(), [2, 1].as_slice());

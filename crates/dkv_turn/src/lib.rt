@@ -5,6 +5,7 @@
 //! number. Only `enter` waits, and only `new` takes memory. Its tests are those of `bench_turn`, which has a value.
 #![tactic(auto)]
 
+mod bell;
 mod chronicle;
 mod counts;
 mod pass;
@@ -12,6 +13,7 @@ mod rest;
 mod steps;
 mod turn;
 mod view;
+mod wait;
 
 pub use chronicle::Chronicle;
 pub use pass::Pass;

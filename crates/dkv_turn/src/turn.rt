@@ -4,26 +4,25 @@ ghost use mathlib.Core.List.{IsPrefix};
 ghost use Rattle.dkv_base.specs.Moments.{capped_moment};
 ghost use Rattle.dkv_turn.specs.Histories.{mine, NoneSince, AddsOwn};
 ghost use Rattle.dkv_turn.specs.Views.{first_view, giver_view, given_view, joined_view, with_moment, with_handed};
-ghost use Rattle.dkv_turn.specs.Seats.{WaitsFor, HoldsTurn, KeepsSeat, FollowsLoan};
-ghost use Rattle.dkv_turn.specs.Steps.{Got};
+ghost use Rattle.dkv_turn.specs.Seats.{HoldsTurn, KeepsSeat, FollowsLoan};
 ghost use Rattle.dkv_turn.specs.Ends.{Ends};
 
+use crate::bell::Bell;
 use crate::chronicle::Chronicle;
 use crate::counts::Counts;
 use crate::pass::Pass;
-use crate::steps::{Add, Change, Cut, Draw, Glue, Learn, Look, Note, Order, PassOn, Raise, Recall};
+use crate::steps::{Add, Change, Cut, Draw, Glue, Learn, Note, Order, PassOn, Raise, Recall};
 use crate::view::View;
 use atomic_table::{Refused, Seat, Table};
 use dkv_base::{MAX_MOMENT, NoMemory};
 use std::alloc::Global;
 use std::snapshot::Snapshot;
 use std::sync::Wait;
-use std::thread::yield_now;
 
 // The words of the table. Its one slot has the value.
-const TICKET: usize = 0;
+pub(crate) const TICKET: usize = 0;
 
-const SERVING: usize = 1;
+pub(crate) const SERVING: usize = 1;
 
 const COUNT: usize = 2;
 
@@ -34,7 +33,10 @@ const LOAN: usize = 4;
 /// A ticket lock round a value. Tickets are served in the order in which they were drawn.
 #[derive(Drop)]
 pub struct Turn<V: Chronicle> {
-    table: Table<Option<V>, View<V::Item, V::Ground>, Snapshot<V>, Order<V>, Global>,
+    pub(crate) table: Table<Option<V>, View<V::Item, V::Ground>, Snapshot<V>, Order<V>, Global>,
+    // Who waits for the turn sleeps by one of these, or by the other before it draws a ticket.
+    pub(crate) with_ticket: Bell,
+    pub(crate) without_ticket: Bell,
     ghost sized: { (table.shared.table_id.words ≡ 5) × (table.shared.table_id.slots ≡ 1) },
 }
 
@@ -74,7 +76,12 @@ impl<V: Chronicle> Turn<V> {
                     who: 0,
                     left: u32::MAX,
                 };
-                Ok((Turn { table }, Pass::awake(seat, counts)))
+                let turn = Turn {
+                    table,
+                    with_ticket: Bell::new(),
+                    without_ticket: Bell::new(),
+                };
+                Ok((turn, Pass::awake(seat, counts)))
             }
             Err(Refused { mut slots }) => {
                 let Some(value) = slots.pop().unwrap() else {
@@ -102,6 +109,7 @@ impl<V: Chronicle> Turn<V> {
         ensures entered { entered_loan pass.new ≡ V.lent result.value }
         ensures lent { 0 < loan pass.old → V.lent result.value ≡ loan pass.old }
     {
+        self.approach(rt);
         let shared = &self.table.shared;
         let number = shared.fetch_add::<Draw>(&mut pass.seat, TICKET, 1);
         self.await_turn(rt, &mut pass.seat, number);
@@ -140,12 +148,13 @@ impl<V: Chronicle> Turn<V> {
         if length == pass.counts.seen {
             shared.fetch_add::<PassOn>(&mut pass.seat, SERVING, 1);
             pass.lent = 0;
-            return;
+            return self.call_next();
         }
         shared.fetch_add::<Add<V>>(&mut pass.seat, COUNT, 1);
         pass.counts.seen = length;
         shared.fetch_add::<PassOn>(&mut pass.seat, SERVING, 1);
         pass.lent = 0;
+        self.call_next();
     }
 
     /// The greater of the moment, in milliseconds, and the one that the turn keeps, which becomes that. A moment above the last one is taken as that.
@@ -224,33 +233,17 @@ impl<V: Chronicle> Turn<V> {
         requires last { IsLast pass }
         ensures { Ends V.carries V.items V.lent V.grounds (view pass) result }
     {
-        let Turn { table } = self;
+        let Turn {
+            table,
+            with_ticket: _,
+            without_ticket: _,
+        } = self;
         let (seat, _) = pass.into_parts();
         let mut closed = table.close_with(seat);
         let slot = closed.take(0);
         closed.free();
         let Some(value) = slot else { unreachable!() };
         value
-    }
-
-    fn await_turn<R: Wait>(
-        &self,
-        rt: &R,
-        seat: &mut Seat<Option<V>, View<V::Item, V::Ground>>,
-        number: u64,
-    )
-        requires own { seat.old.table_id ≡ turn_id self.now }
-        requires waits { WaitsFor seat.old number }
-        ensures own { seat.new.table_id ≡ seat.old.table_id }
-        ensures got { Got V.carries V.items V.lent V.grounds seat.old.me seat.new.me }
-    {
-        for _ in rt.forever() {
-            if self.table.shared.load::<Look<V>>(seat, SERVING) == number {
-                return;
-            }
-            yield_now();
-        }
-        unreachable!()
     }
 
     // Changes the loan that the lock keeps, where it is the pass's.
