@@ -21,7 +21,7 @@ best = None
 for _ in range(3):
     with open(sys.argv[1], "rb") as source:
         start = time.perf_counter()
-        subprocess.run(["crates/dkv_app/out/dkv_app", "pipe"], stdin=source, stdout=subprocess.DEVNULL, check=True)
+        subprocess.run(["crates/denokv/out/denokv", "pipe"], stdin=source, stdout=subprocess.DEVNULL, check=True)
         took = time.perf_counter() - start
     best = took if best is None else min(best, took)
 print(f"{best:.4f}")

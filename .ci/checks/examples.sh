@@ -14,12 +14,13 @@ sh -n denokv || fail "denokv is no shell script"
 if command -v shellcheck >/dev/null 2>&1; then
     shellcheck denokv .ci/spelled .ci/checks/examples.sh || fail "shellcheck found something"
 fi
-cmp -s examples/first.frames crates/dkv_app/stdin || fail "examples/first.frames is not the program's stored input"
-[ "$(cat crates/dkv_app/args)" = pipe ] || fail "the program's stored words are not 'pipe'"
+cmp -s examples/first.frames crates/denokv/stdin || fail "examples/first.frames is not the program's stored input"
+[ "$(cat crates/denokv/args)" = pipe ] || fail "the program's stored words are not 'pipe'"
+head -c 53 examples/first.frames | cmp -s - crates/denokv_cut/stdin || fail "the stored input that ends within a frame is another"
 ./denokv --help | grep -q '^usage:' || fail "'./denokv --help' prints no usage"
 command -v xxd >/dev/null 2>&1 || exit $status
 
-program=crates/dkv_app/out/dkv_app
+program=crates/denokv/out/denokv
 is_built() {
     [ -x "$program" ] && [ -z "$(find crates.txt crates -path 'crates/*/out' -prune -o -type f -newer "$program" -print)" ]
 }
@@ -35,10 +36,10 @@ for text in examples/*.txt; do
         [ "$(answered "$text")" = "$("$program" pipe <"$frames" | xxd -p | tr -d '\n')" ] || fail "$text spells other replies"
     fi
 done
-[ "$(answered examples/first.txt)" = "$(xxd -p crates/dkv_app/stdout | tr -d '\n')" ] || fail "examples/first.txt spells another output"
+[ "$(answered examples/first.txt)" = "$(xxd -p crates/denokv/stdout | tr -d '\n')" ] || fail "examples/first.txt spells another output"
 
 # The block of the README that begins with the command, up to its end.
 # shellcheck disable=SC2016
 shown=$(sed -n '/^\$ \.\/denokv pipe < examples\/first.frames | xxd$/,/^```$/p' README.md | sed '1d;$d')
-[ "$shown" = "$(xxd crates/dkv_app/stdout)" ] || fail "the README shows another output"
+[ "$shown" = "$(xxd crates/denokv/stdout)" ] || fail "the README shows another output"
 exit $status

@@ -2,6 +2,8 @@
 ghost use Rattle.std.specs.Prelude.{◌≡◌, map, string_bytes};
 ghost use Rattle.dkv_io.specs.Causes.{Rose};
 ghost use Rattle.dkv_pipe.specs.Ends.{HasEndCause, RanNew, streams};
+ghost use Rattle.dkv_pipe.specs.Replied.{started};
+ghost use Rattle.dkv_pipe.specs.Whole.{Completes};
 ghost use Rattle.dkv_app.specs.Forms.{InNoForm, IsPipe};
 ghost use Rattle.dkv_app.specs.Statuses.{Lines, Tells};
 
@@ -20,6 +22,11 @@ fn run_new<S: Source, K: Sink>(alloc: Global, source: &mut S, sink: &mut K) -> P
         (streams (S.left source.old) (S.ended source.old) (K.held sink.old))
         (streams (S.left source.new) (S.ended source.new) (K.held sink.new)) }
     ensures cause { HasEndCause result (S.ended source.new)
+        (Rose (S.faults source.old) (S.faults source.new))
+        (Rose (K.faults sink.old) (K.faults sink.new)) }
+    ensures complete { Completes result started
+        (streams (S.left source.old) (S.ended source.old) (K.held sink.old))
+        (streams (S.left source.new) (S.ended source.new) (K.held sink.new))
         (Rose (S.faults source.old) (S.faults source.new))
         (Rose (K.faults sink.old) (K.faults sink.new)) }
 {
@@ -49,6 +56,13 @@ fn run_words<S: Source, K: Sink>(
         ((source.new ≡ source.old) × (sink.new ≡ sink.old)) }
     ensures cause { Tells result
         (λ end. HasEndCause end (S.ended source.new)
+        (Rose (S.faults source.old) (S.faults source.new))
+        (Rose (K.faults sink.old) (K.faults sink.new)))
+        (InNoForm (map string_bytes words.now)) }
+    ensures complete { Tells result
+        (λ end. Completes end started
+        (streams (S.left source.old) (S.ended source.old) (K.held sink.old))
+        (streams (S.left source.new) (S.ended source.new) (K.held sink.new))
         (Rose (S.faults source.old) (S.faults source.new))
         (Rose (K.faults sink.old) (K.faults sink.new)))
         (InNoForm (map string_bytes words.now)) }
@@ -84,6 +98,15 @@ pub fn run_once<S: Source, K: Sink, E: Sink, D: Disk, R: Random>(
     // Told or not: why it ended so.
     ensures cause { Tells result.status
         (λ end. HasEndCause end (S.ended source.new)
+        (Rose (S.faults source.old) (S.faults source.new))
+        (Rose (K.faults sink.old) (K.faults sink.new)))
+        (InNoForm (map string_bytes words.now)) }
+    // `pipe` over whole frames that are built answers them all, or memory was wanted, where no count of
+    // faults rose.
+    ensures complete { Tells result.status
+        (λ end. Completes end started
+        (streams (S.left source.old) (S.ended source.old) (K.held sink.old))
+        (streams (S.left source.new) (S.ended source.new) (K.held sink.new))
         (Rose (S.faults source.old) (S.faults source.new))
         (Rose (K.faults sink.old) (K.faults sink.new)))
         (InNoForm (map string_bytes words.now)) }

@@ -1,25 +1,97 @@
-// How runs end: at faults, at bad frames, at the end of the input.
-use super::running::{FOUND, NONE_FOUND, POLL, READ, SET, WRITTEN, frame, joined, run};
-use crate::status::{Pair, Status};
-use crate::top::run_once;
-use dkv_io::{Failed, ListRandom, MemorySink, MemorySource, Sink, VoidDisk};
+// How runs end: at faults, at bad frames, at the end of the input, and by which exit status.
+use super::running::{KEY, READ, SET, WRITE, WRITTEN, frame, joined, run_into};
+use crate::program::NoWords;
+use dkv_io::{Failed, MemorySink, Sink};
 use std::alloc::Global;
+use std::process::Abort;
 use std::test::*;
 
+// The word, what stands behind a SET, the calls at which the source and the sink fail, and what comes of it: the exit
+// status, the output and the error output.
+type End<'a> = (
+    Result<&'a str, NoWords>,
+    &'a [u8],
+    &'a [u64],
+    &'a [u64],
+    u8,
+    &'a [u8],
+    &'a [u8],
+);
+
+fn ends_so(rt: &impl Abort, alloc: Global, end: End<'_>) -> Result<(), Fail> {
+    let (word, rest, source_fails, sink_fails, status, out, line) = end;
+    let input = joined(alloc, &[&frame(alloc, 5, WRITE, SET)?, rest])?;
+    let mut sink = MemorySink::new(alloc, sink_fails.to_vec(alloc)?);
+    let (exit, errors) = run_into(alloc, word, &input, source_fails, &mut sink)?;
+    assert_eq!(rt; exit, status);
+    assert_eq!(rt; sink.bytes(), out);
+    assert_eq!(rt; errors.as_slice(), line);
+    Ok(())
+}
+
 #[test]
-fn a_set_is_answered_and_then_read(rt: HostRuntime) -> Result<(), Fail> {
+fn each_end_keeps_the_replies_before_it(rt: HostRuntime) -> Result<(), Fail> {
     let alloc = rt.alloc();
-    let cases: [(&[&[u8]], &[&[u8]]); 4] = [
-        (&[], &[]),
-        (&[READ], &[NONE_FOUND]),
-        (&[SET], &[WRITTEN]),
-        (&[SET, READ], &[WRITTEN, FOUND]),
+    let read = frame(alloc, 5, READ, KEY)?;
+    let no_frame = b"bad frame at 33\n".as_slice();
+    let ends: [End<'_>; 8] = [
+        (Ok("pipe"), b"", &[], &[], 0, WRITTEN, b""),
+        (Ok("serve"), b"", &[], &[], 2, b"", b"bad words\n"),
+        (Err(NoWords::NotText), b"", &[], &[], 2, b"", b"bad words\n"),
+        (Ok("pipe"), b"", &[1], &[], 3, WRITTEN, b"read fault\n"),
+        (Ok("pipe"), &read, &[], &[1], 4, WRITTEN, b"write fault\n"),
+        (Ok("pipe"), b"\x0c\0\0\0", &[], &[], 8, WRITTEN, no_frame),
+        (Ok("pipe"), &read[..20], &[], &[], 8, WRITTEN, no_frame),
+        (
+            Err(NoWords::NoMemory),
+            b"",
+            &[],
+            &[],
+            14,
+            b"",
+            b"no memory\n",
+        ),
     ];
-    for (input, wanted) in cases {
-        let end = run(alloc, "pipe", &joined(alloc, input)?, &[], &[])?;
-        assert_eq!(rt; end.status, Status::Ok);
-        assert_eq!(rt; end.out.as_slice(), joined(alloc, wanted)?.as_slice());
-        assert_eq!(rt; end.errors.len(), 0);
+    for end in ends {
+        ends_so(&rt, alloc, end)?;
+    }
+    Ok(())
+}
+
+// The kind and the body of a frame, and the exit status.
+const KINDS: [(u8, &[u8], u8); 14] = [
+    (3, b"\x0a\x05\x0a\x03\x02\x61\0", 15),
+    (4, b"", 15),
+    (8, b"", 15),
+    (9, b"", 15),
+    (5, b"\0", 8),
+    (6, b"", 8),
+    (6, &[0; 11], 8),
+    (6, &[0; 13], 8),
+    (7, &[0; 8], 8),
+    (4, b"\0", 8),
+    (8, b"\0", 8),
+    (9, b"\0", 8),
+    (0, b"", 8),
+    (10, b"", 8),
+];
+
+#[test]
+fn some_kinds_are_not_built_and_other_kinds_and_lengths_are_bad_frames(
+    rt: HostRuntime,
+) -> Result<(), Fail> {
+    let alloc = rt.alloc();
+    for (kind, body, status) in KINDS {
+        let line = match status {
+            15 => b"not built at 33\n".as_slice(),
+            _ => b"bad frame at 33\n",
+        };
+        let last = frame(alloc, 6, kind, body)?;
+        ends_so(
+            &rt,
+            alloc,
+            (Ok("pipe"), &last, &[], &[], status, WRITTEN, line),
+        )?;
     }
     Ok(())
 }
@@ -54,121 +126,19 @@ impl Sink for NarrowSink {
 #[test]
 fn a_sink_that_fails_in_mid_reply_has_a_front_of_it(rt: HostRuntime) -> Result<(), Fail> {
     let alloc = rt.alloc();
-    let mut source = MemorySource::new(joined(alloc, &[SET, READ])?, Vec::new(alloc));
+    let set = frame(alloc, 5, WRITE, SET)?;
+    let input = joined(alloc, &[&set, &set])?;
     let mut sink = NarrowSink {
         bytes: Vec::new(alloc),
         room: WRITTEN.len() + 7,
         faults: 0,
     };
-    let mut errors = MemorySink::new(alloc, Vec::new(alloc));
-    let mut random = ListRandom::new(Vec::new(alloc), Vec::new(alloc));
-    let words = vec![in alloc; String::from_str(alloc, "pipe")?]?;
-    let files: Option<Pair<VoidDisk>> = None;
-    let ended = run_once(
-        alloc,
-        &words,
-        &mut source,
-        &mut sink,
-        &mut errors,
-        files,
-        &mut random,
-    );
-    assert_eq!(rt; ended.status, Status::WriteFault);
+    let (exit, errors) = run_into(alloc, Ok("pipe"), &input, &[], &mut sink)?;
+    assert_eq!(rt; exit, 4);
     assert_eq!(rt;
         sink.bytes.as_slice(),
-        joined(alloc, &[WRITTEN, &FOUND[..7]])?.as_slice()
+        joined(alloc, &[WRITTEN, &WRITTEN[..7]])?.as_slice()
     );
-    Ok(())
-}
-
-#[test]
-fn each_other_end_keeps_the_replies_before_it(rt: HostRuntime) -> Result<(), Fail> {
-    let alloc = rt.alloc();
-    let short: &[u8] = &[12, 0, 0, 0];
-    let cases: [(&[u8], &[u64], &[u64], Status, &[u8]); 5] = [
-        (
-            short,
-            &[],
-            &[],
-            Status::BadFrame { at: 33 },
-            b"bad frame at 33\n",
-        ),
-        (
-            &READ[..20],
-            &[],
-            &[],
-            Status::BadFrame { at: 33 },
-            b"bad frame at 33\n",
-        ),
-        (
-            POLL,
-            &[],
-            &[],
-            Status::NotBuilt { at: 33 },
-            b"not built at 33\n",
-        ),
-        (&[], &[1], &[], Status::ReadFault, b"read fault\n"),
-        (READ, &[], &[1], Status::WriteFault, b"write fault\n"),
-    ];
-    for (rest, source_fails, sink_fails, status, line) in cases {
-        let input = joined(alloc, &[SET, rest])?;
-        let end = run(alloc, "pipe", &input, source_fails, sink_fails)?;
-        assert_eq!(rt; end.status, status);
-        assert_eq!(rt; end.out.as_slice(), WRITTEN);
-        assert_eq!(rt; end.errors.as_slice(), line);
-    }
-    Ok(())
-}
-
-#[test]
-fn other_words_are_bad_words(rt: HostRuntime) -> Result<(), Fail> {
-    let end = run(rt.alloc(), "serve", SET, &[], &[])?;
-    assert_eq!(rt; end.status, Status::BadWords);
-    assert_eq!(rt; end.status.number(), 2);
-    assert_eq!(rt; end.out.len(), 0);
-    assert_eq!(rt; end.errors.as_slice(), b"bad words\n".as_slice());
-    Ok(())
-}
-
-// Behind a write: the status, and what was written to the error output.
-fn end_of(alloc: Global, kind: u8, body: &[u8]) -> Result<(Status, Vec<u8>), Fail> {
-    let last = frame(alloc, (2, 6), kind, body)?;
-    let end = run(alloc, "pipe", &joined(alloc, &[SET, &last, SET])?, &[], &[])?;
-    Ok((end.status, end.errors))
-}
-
-#[test]
-fn watches_polls_checkpoints_and_terms_are_not_built(rt: HostRuntime) -> Result<(), Fail> {
-    let alloc = rt.alloc();
-    let watch: &[u8] = b"\x0a\x05\x0a\x03\x02\x61\0";
-    let cases = [(3, watch), (4, b"".as_slice()), (8, b""), (9, b"")];
-    for (kind, body) in cases {
-        let (status, errors) = end_of(alloc, kind, body)?;
-        assert_eq!(rt; status, Status::NotBuilt { at: 33 }, "kind {kind}");
-        assert_eq!(rt; errors.as_slice(), b"not built at 33\n".as_slice());
-    }
-    Ok(())
-}
-
-#[test]
-fn a_body_of_another_length_and_other_kinds_are_bad_frames(rt: HostRuntime) -> Result<(), Fail> {
-    let alloc = rt.alloc();
-    let cases = [
-        (5, b"\0".as_slice()),
-        (6, b""),
-        (6, &[0; 11]),
-        (6, &[0; 13]),
-        (7, &[0; 8]),
-        (4, b"\0"),
-        (8, b"\0"),
-        (9, b"\0"),
-        (0, b""),
-        (10, b""),
-    ];
-    for (kind, body) in cases {
-        let (status, errors) = end_of(alloc, kind, body)?;
-        assert_eq!(rt; status, Status::BadFrame { at: 33 }, "kind {kind}");
-        assert_eq!(rt; errors.as_slice(), b"bad frame at 33\n".as_slice());
-    }
+    assert_eq!(rt; errors.as_slice(), b"write fault\n".as_slice());
     Ok(())
 }

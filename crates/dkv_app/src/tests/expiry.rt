@@ -1,19 +1,11 @@
 // Entries that end.
-use super::running::{FOUND, NONE_FOUND, Said, WRITTEN, talk};
+use super::running::{
+    ACKNOWLEDGE, FOUND, KEY, NONE_FOUND, NOT_OUT, NOTHING, READ, SECOND, Said, TAKE, WRITE,
+    WRITTEN, talk,
+};
 use std::test::*;
 
-const READ: u8 = 1;
-
-const WRITE: u8 = 2;
-
-const TAKE: u8 = 5;
-
-const ACKNOWLEDGE: u8 = 6;
-
-// A read of the key 02 61 00, alone.
-const KEY: &[u8] = b"\x0a\x0d\x0a\x03\x02\x61\0\x12\x04\x02\x61\0\0\x18\x01";
-
-// SETs of that key to 78, which end at these moments.
+// SETs of the key 02 61 00 to 78, which end at these moments.
 const AT_9: &[u8] = b"\x12\x10\x0a\x03\x02\x61\0\x12\x05\x0a\x01\x78\x10\x03\x18\x01\x20\x09";
 
 const AT_100: &[u8] = b"\x12\x10\x0a\x03\x02\x61\0\x12\x05\x0a\x01\x78\x10\x03\x18\x01\x20\x64";
@@ -23,10 +15,6 @@ const AT_MINUS_1: &[u8] =
 
 const AT_THE_GREATEST: &[u8] =
     b"\x12\x18\x0a\x03\x02\x61\0\x12\x05\x0a\x01\x78\x10\x03\x18\x01\x20\xff\xff\xff\xff\xff\xff\xff\xff\x7f";
-
-const SECOND: &[u8] = b"\x0f\0\0\0\0\x08\x01\x12\x0a\0\0\0\0\0\0\0\x02\0\0";
-
-const NOTHING: &[u8] = b"\x09\0\0\0\x06\xff\xff\xff\xff\xff\xff\xff\xff";
 
 #[test]
 fn a_key_is_gone_from_its_expiry_on_and_stays_gone(rt: HostRuntime) -> Result<(), Fail> {
@@ -81,7 +69,7 @@ fn what_is_refused_leaves_the_moment(rt: HostRuntime) -> Result<(), Fail> {
         // Malformed at place 0, a range with a limit of 0, and a message that isn't out.
         (100, READ, b"\x0a", b"\x09\0\0\0\x01\0\0\0\0\0\0\0\0"),
         (100, READ, b"\x0a\0", b"\x02\0\0\0\x02\x16"),
-        (100, ACKNOWLEDGE, &[0; 12], b"\x01\0\0\0\x07"),
+        (100, ACKNOWLEDGE, &[0; 12], NOT_OUT),
         (50, READ, KEY, FOUND),
         // A take that finds nothing raises it.
         (100, TAKE, b"", NOTHING),

@@ -1,16 +1,6 @@
 // Messages that are enqueued, taken, acknowledged and failed.
-use super::running::{Said, WRITTEN, talk};
+use super::running::{ACKNOWLEDGE, FAIL, NOT_OUT, NOTHING, READ, Said, TAKE, WRITE, WRITTEN, talk};
 use std::test::*;
-
-const READ: u8 = 1;
-
-const WRITE: u8 = 2;
-
-const TAKE: u8 = 5;
-
-const ACKNOWLEDGE: u8 = 6;
-
-const FAIL: u8 = 7;
 
 // The message (1, 0), alone and with the payload 70.
 const FIRST: &[u8] = &[1, 0, 0, 0, 0, 0, 0, 0, 0, 0, 0, 0];
@@ -29,10 +19,6 @@ const SETTLED_5: &[u8] = b"\x09\0\0\0\0\x05\0\0\0\0\0\0\0";
 const SETTLED_6: &[u8] = b"\x09\0\0\0\0\x06\0\0\0\0\0\0\0";
 
 const SETTLED_7: &[u8] = b"\x09\0\0\0\0\x07\0\0\0\0\0\0\0";
-
-const NOTHING: &[u8] = b"\x09\0\0\0\x06\xff\xff\xff\xff\xff\xff\xff\xff";
-
-const NOT_OUT: &[u8] = b"\x01\0\0\0\x07";
 
 // A read of all keys of texts, up to nine, and its reply: 70 in encoding V8 under 02 64 00, of commit 3.
 const ALL: &[u8] = b"\x0a\x08\x0a\x01\x02\x12\x01\x03\x18\x09";

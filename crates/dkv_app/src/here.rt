@@ -1,16 +1,4 @@
-//! The program `denokv`: `pipe` answers frames from the standard input on the standard output, over a
-//! new database.
-//!
-//! `main` makes the real objects and exits as `run_program` says, over any source, sink and error
-//! output.
-#![tactic(auto)]
-
-mod program;
-mod report;
-mod status;
-mod top;
-mod words;
-
+// The program over the system's words and streams.
 use crate::program::{NoWords, run_program};
 use crate::status::Pair;
 use dkv_io::{ListRandom, VoidDisk};
@@ -39,12 +27,15 @@ fn words_of(rt: &HostRuntime, alloc: Global) -> Result<Vec<String>, NoWords> {
     }
 }
 
-fn main(rt: HostRuntime) -> ExitCode {
+/// Runs the program on the words and the three standard streams of the process, and gives its exit
+/// status, as `run_program` does over any. Those streams tell nothing of their bytes. It waits where the
+/// standard input does.
+pub fn run_here(rt: &HostRuntime) -> ExitCode {
     let alloc = rt.alloc();
     let files: Option<Pair<VoidDisk>> = None;
     ExitCode::from(run_program(
         alloc,
-        words_of(&rt, alloc),
+        words_of(rt, alloc),
         &mut StdSource::new(rt.stdin()),
         &mut StdSink::new(rt.stdout()),
         &mut StdSink::new(rt.stderr()),
@@ -52,6 +43,3 @@ fn main(rt: HostRuntime) -> ExitCode {
         &mut ListRandom::new(Vec::new(alloc), Vec::new(alloc)),
     ))
 }
-
-#[cfg(test)]
-mod tests;
