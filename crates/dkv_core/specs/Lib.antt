@@ -1,5 +1,6 @@
 pub mod Settling
 pub mod Entries
+pub mod Found
 pub mod Rows
 pub mod Cores
 pub mod Decisions

@@ -1,5 +1,5 @@
 // A core: what it is made of, and what it tells.
-ghost use Rattle.std.specs.Prelude.{◌≡◌, ◌^◌, ◌<◌, max, [], IfOk, Ok, None};
+ghost use Rattle.std.specs.Prelude.{◌≡◌, ◌^◌, ◌<◌, max, map, [], IfOk, Ok, None};
 ghost use Rattle.dkv_base.specs.State.{empty_state};
 ghost use Rattle.dkv_base.specs.Moments.{capped_moment};
 ghost use Rattle.dkv_base.specs.Sound.{IsSound};
@@ -9,10 +9,11 @@ ghost use Rattle.dkv_base.specs.Messages.{is_out};
 ghost use Rattle.dkv_queue.specs.Rows.{messages_of, out_of};
 ghost use Rattle.dkv_core.specs.Cores.{IsEffective, SameContent};
 ghost use Rattle.dkv_core.specs.Decisions.{may_ask};
+ghost use Rattle.dkv_core.specs.Found.{entries_of};
 
 use crate::enqueued::queue_of;
 use crate::entries::Entries;
-use crate::reading::read_all;
+use crate::reading::{copy_all, find_all};
 use dkv_base::{Call, Entry, MAX_MOMENT, Message, MsgId, NoMemory, ReadRange, Run};
 use dkv_queue::Queue;
 use dkv_table::{Plain, Table};
@@ -187,7 +188,23 @@ impl Core {
     }
 
     /// The entries of each range, in the order of the ranges. The moment is in milliseconds since 1970. Takes memory for
-    /// copies of the entries that it gives.
+    /// their list, and copies none of them.
+    pub fn find(
+        &self,
+        alloc: Global,
+        ranges: &[ReadRange],
+        at: u64,
+    ) -> Result<Run<Run<&Entry>>, NoMemory>
+        requires unlimited { read_limit ranges.now ≡ None }
+        requires effective { IsEffective self.now at }
+        ensures { IfOk result (λ found.
+            map entries_of found ≡ read_reply self.now.state at ranges.now) }
+    {
+        find_all(alloc, self.entries.table(), ranges, at)
+    }
+
+    /// Copies of the entries of each range, in the order of the ranges. The moment is in milliseconds since 1970. Takes
+    /// memory for them.
     pub fn read(
         &self,
         alloc: Global,
@@ -198,6 +215,7 @@ impl Core {
         requires effective { IsEffective self.now at }
         ensures { IfOk result (λ answer. answer ≡ read_reply self.now.state at ranges.now) }
     {
-        read_all(alloc, self.entries.table(), ranges, at)
+        let found = self.find(alloc, ranges, at)?;
+        copy_all(alloc, found.as_slice())
     }
 }

@@ -3,6 +3,7 @@ ghost use Rattle.std.specs.Prelude.{◌≡◌, map, take, IfOk};
 ghost use Rattle.dkv_base.specs.Limits.{from_zero};
 ghost use Rattle.dkv_base.specs.Replies.{read_range};
 ghost use Rattle.dkv_base.specs.State.{visible};
+ghost use Rattle.dkv_core.specs.Found.{entries_of};
 
 use dkv_atomic::is_visible;
 use dkv_base::{Entry, NoMemory, ReadRange, Run, TryCopy, from_zero};
@@ -17,55 +18,77 @@ fn most_of(range: &ReadRange) -> usize
 }
 
 // The first so many entries of a walk that have not ended at the moment.
-fn first_seen(
+fn first_seen<'a>(
     alloc: Global,
-    mut cursor: Cursor<'_>,
+    mut cursor: Cursor<'a>,
     most: usize,
     at: u64,
-) -> Result<Run<Entry>, NoMemory>
-    ensures { IfOk result (λ entries. entries ≡ take most (visible at cursor.entry)) }
+) -> Result<Run<&'a Entry>, NoMemory>
+    ensures { IfOk result (λ found. entries_of found ≡ take most (visible at cursor.entry)) }
 {
-    let mut entries = Run::new(alloc);
-    while entries.len() < most {
+    let mut found = Run::new(alloc);
+    while found.len() < most {
         match cursor.next() {
             Some(entry) => {
                 if is_visible(entry, at) {
-                    entries.add(entry.copy(alloc)?)?;
+                    found.add(entry)?;
                 }
             }
-            None => return Ok(entries),
+            None => return Ok(found),
         }
     }
-    Ok(entries)
+    Ok(found)
 }
 
 // The first entries of the range that have not ended, up or down. A walk stops at the range's limit.
-fn read_one<T: Table>(
+fn find_one<'a, T: Table>(
     alloc: Global,
-    table: &T,
+    table: &'a T,
     range: &ReadRange,
     at: u64,
-) -> Result<Run<Entry>, NoMemory>
-    ensures { IfOk result (λ entries.
-        entries ≡ read_range (visible at (T.content table.now)) range.now) }
+) -> Result<Run<&'a Entry>, NoMemory>
+    ensures { IfOk result (λ found.
+        entries_of found ≡ read_range (visible at (T.content table.now)) range.now) }
 {
     let cursor = table.walk(range.start.as_slice(), range.end.as_slice(), range.reverse);
     first_seen(alloc, cursor, most_of(range), at)
 }
 
 /// The entries of each range that have not ended at the moment, in the order of the ranges.
-pub(crate) fn read_all<T: Table>(
+pub(crate) fn find_all<'a, T: Table>(
     alloc: Global,
-    table: &T,
+    table: &'a T,
     ranges: &[ReadRange],
     at: u64,
-) -> Result<Run<Run<Entry>>, NoMemory>
-    ensures { IfOk result (λ answer.
-        answer ≡ map (read_range (visible at (T.content table.now))) ranges.now) }
+) -> Result<Run<Run<&'a Entry>>, NoMemory>
+    ensures { IfOk result (λ found.
+        map entries_of found ≡ map (read_range (visible at (T.content table.now))) ranges.now) }
 {
-    let mut answer = Run::new(alloc);
+    let mut found = Run::new(alloc);
     for range in ranges {
-        answer.add(read_one(alloc, table, range, at)?)?;
+        found.add(find_one(alloc, table, range, at)?)?;
     }
-    Ok(answer)
+    Ok(found)
+}
+
+// Copies of these entries.
+fn copies_of(alloc: Global, found: &[&Entry]) -> Result<Run<Entry>, NoMemory>
+    ensures { IfOk result (λ entries. entries ≡ entries_of found.now) }
+{
+    let mut entries = Run::of(Vec::with_capacity(alloc, found.len())?);
+    for entry in found {
+        entries.add(entry.copy(alloc)?)?;
+    }
+    Ok(entries)
+}
+
+/// Copies of all that was found.
+pub(crate) fn copy_all(alloc: Global, found: &[Run<&Entry>]) -> Result<Run<Run<Entry>>, NoMemory>
+    ensures { IfOk result (λ entries. entries ≡ map entries_of found.now) }
+{
+    let mut all = Run::new(alloc);
+    for one in found {
+        all.add(copies_of(alloc, one.as_slice())?)?;
+    }
+    Ok(all)
 }

@@ -1,7 +1,0 @@
-use Rattle.std.proofs.Common.{◌≡◌, map, take}
-use Rattle.dkv_base.specs.Replies.{read_range}
-use Rattle.dkv_base.specs.State.{visible}
-use Rattle.dkv_core.proofs.reading.read_all.Given as goal
-
-abbrev pub invariant-loop-range : goal.invariant-loop-range
-invariant-loop-range g l = l.answer ≡ map (read_range (visible l.at (g.T.Table.content l.table))) (take l.range-index l.ranges)
