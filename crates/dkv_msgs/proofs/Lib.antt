@@ -6,5 +6,7 @@ mod Short
 mod WholePayloads
 mod ShortMessages
 mod Joined
+mod Counted
+mod Enclosing
 mod RangesSpelled
 mod Table

@@ -6,5 +6,6 @@ pub mod Messages
 pub mod Outputs
 pub mod Places
 pub mod Readings
+pub mod Requests
 pub mod Sources
 pub mod Spellings

@@ -3,6 +3,7 @@
 --     written_output n, fails_output places      the reply to a write
 --     frame_output f      a frame of a watch
 use Rattle.std.specs.Prelude.{ℕ, pos, true, false, List, [], map}
+use Rattle.std.specs.Borrow.{Bor}
 use Rattle.std.specs.Option.{option_map}
 use Rattle.dkv_base.specs.declared.types.Entry.{Entry}
 use Rattle.dkv_base.specs.declared.types.Frame.{Frame}
@@ -26,6 +27,14 @@ entry_output e = record {
 -- ReadRangeOutput: the entries of one range
 abbrev pub entries_output : List Entry → List KvEntry
 entries_output es = map entry_output es
+
+-- the entries of a range that stand elsewhere
+abbrev pub told_range : List (Bor Entry) → List Entry
+told_range es = map (λ e. e.now) es
+
+-- those of each range
+abbrev pub told : List (List (Bor Entry)) → List (List Entry)
+told ranges = map told_range ranges
 
 -- SnapshotReadOutput: the ranges, strongly consistent, with status 1
 abbrev pub read_output : List (List Entry) → SnapshotReadOutput

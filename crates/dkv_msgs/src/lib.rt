@@ -8,11 +8,13 @@
 
 mod laws;
 mod read;
+mod read_counts;
 mod read_fields;
 mod read_messages;
 mod read_places;
 mod read_source;
 mod replies;
+mod requests;
 #[cfg(test)]
 mod tests;
 mod types;
@@ -26,6 +28,7 @@ pub use read::{
     read_snapshot_read_output, read_watch, read_watch_output,
 };
 pub use replies::{fails_reply, read_reply, written_reply};
+pub use requests::{RequestError, request_atomic_write, request_snapshot_read, request_watch};
 pub use types::{
     AtomicWriteOutput, KvEntry, SnapshotRead, SnapshotReadOutput, Watch, WatchKeyOutput,
     WatchOutput,

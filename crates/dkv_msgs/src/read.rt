@@ -2,8 +2,9 @@
 ghost use Rattle.std.specs.Prelude.{◌≡◌};
 ghost use Rattle.dkv_msgs.specs.Readings.{IsReading, reads_snapshot_read, reads_snapshot_read_output, reads_atomic_write, reads_atomic_write_output, reads_watch, reads_watch_output};
 
+use crate::read_counts::WriteCounts;
 use crate::read_fields::{last_bytes, last_number, numbers};
-use crate::read_messages::{each, low_signed};
+use crate::read_messages::{each, low_signed, write_of};
 use crate::read_places::{Kind, first_bad};
 use crate::types::{AtomicWriteOutput, SnapshotRead, SnapshotReadOutput, Watch, WatchOutput};
 use dkv_base::{AtomicWrite, Bytes, NoMemory};
@@ -67,11 +68,7 @@ pub fn read_atomic_write(alloc: Global, body: &[u8]) -> Result<AtomicWrite, Read
 {
     match first_bad(Kind::AtomicWrite, 0, body) {
         Some(at) => Err(ReadError::Malformed { at }),
-        None => Ok(AtomicWrite {
-            checks: each(alloc, 1, body)?,
-            mutations: each(alloc, 2, body)?,
-            enqueues: each(alloc, 3, body)?,
-        }),
+        None => Ok(write_of(alloc, WriteCounts::of(body), body)?),
     }
 }
 

@@ -4,6 +4,7 @@ ghost use Rattle.dkv_wire.specs.FieldLists.{fields, varints};
 ghost use Rattle.dkv_wire.specs.Reading.{content};
 ghost use Rattle.dkv_msgs.specs.ByField.{last_or, payloads, numbers, numbers_in, number_in, held_by, uint32};
 
+use crate::read_counts::count;
 use dkv_base::{Bytes, NoMemory, Run};
 use dkv_wire::{Fields, Payload, Varints};
 use std::alloc::Global;
@@ -67,7 +68,7 @@ pub(crate) fn last_bytes<'a>(before: &'a [u8], field: u32, bytes: &'a [u8]) -> &
 pub(crate) fn all_bytes(alloc: Global, field: u32, bytes: &[u8]) -> Result<Run<Bytes>, NoMemory>
     ensures { IfOk result (λ all. all ≡ payloads field (fields 0 bytes.now)) }
 {
-    let mut all = Run::new(alloc);
+    let mut all = Run::of(Vec::with_capacity(alloc, count(field, bytes))?);
     let mut texts = Payloads::new(field, bytes);
     while let Some(text) = texts.next() {
         all.add(Bytes::copy_of(alloc, text)?)?;

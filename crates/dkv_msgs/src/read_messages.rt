@@ -2,13 +2,15 @@
 ghost use Rattle.std.specs.Prelude.{◌≡◌, IfOk};
 ghost use Rattle.dkv_wire.specs.FieldLists.{fields};
 ghost use Rattle.dkv_msgs.specs.ByField.{int32, int64};
-ghost use Rattle.dkv_msgs.specs.Messages.{each_of, one_of, kv_value, kv_entry};
+ghost use Rattle.dkv_msgs.specs.Messages.{atomic_write, each_of, one_of, kv_value, kv_entry};
 ghost use Rattle.dkv_msgs.specs.Sources.{source_fields};
 
+use crate::read_counts::{WriteCounts, count};
 use crate::read_fields::{Payloads, all_bytes, last_bytes, last_number, numbers};
 use crate::read_source::Source;
 use crate::types::{KvEntry, WatchKeyOutput};
-use dkv_base::{Bytes, Check, Enqueue, Mutation, NoMemory, ReadRange, Run, Value};
+use dkv_base::{AtomicWrite, Bytes, Check, Enqueue, Mutation, NoMemory, ReadRange, Run, Value};
+use dkv_wire::{Fields, Payload};
 use std::alloc::Global;
 
 // What the payload of an embedded message is read as. One that is not whole fields is read as those
@@ -31,12 +33,41 @@ pub(crate) fn each<M: Embedded + Drop>(
 ) -> Result<Run<M>, NoMemory>
     ensures { IfOk result (λ ms. ms ≡ each_of M.read_of field (fields 0 bytes.now)) }
 {
-    let mut all = Run::new(alloc);
+    let mut all = Run::of(Vec::with_capacity(alloc, count(field, bytes))?);
     let mut texts = Payloads::new(field, bytes);
     while let Some(text) = texts.next() {
         all.add(M::read(alloc, text)?)?;
     }
     Ok(all)
+}
+
+// A write from its fields. The counts make the room.
+pub(crate) fn write_of(
+    alloc: Global,
+    counts: WriteCounts,
+    bytes: &[u8],
+) -> Result<AtomicWrite, NoMemory>
+    ensures { IfOk result (λ w. w ≡ atomic_write (fields 0 bytes.now)) }
+{
+    let mut checks = Run::of(Vec::with_capacity(alloc, counts.checks)?);
+    let mut mutations = Run::of(Vec::with_capacity(alloc, counts.mutations)?);
+    let mut enqueues = Run::of(Vec::with_capacity(alloc, counts.enqueues)?);
+    let mut fields = Fields::new(bytes);
+    while let Ok(Some(found)) = fields.next() {
+        if let Payload::Len(text) = found.payload {
+            match found.number {
+                1 => checks.add(Check::read(alloc, text)?)?,
+                2 => mutations.add(Mutation::read(alloc, text)?)?,
+                3 => enqueues.add(Enqueue::read(alloc, text)?)?,
+                _ => {}
+            }
+        }
+    }
+    Ok(AtomicWrite {
+        checks,
+        mutations,
+        enqueues,
+    })
 }
 
 pub(crate) fn low_signed(n: u64) -> i32

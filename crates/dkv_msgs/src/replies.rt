@@ -1,6 +1,6 @@
 // What the database answers, as the reply that is sent.
-ghost use Rattle.std.specs.Prelude.{◌≡◌, IfOk, map};
-ghost use Rattle.dkv_msgs.specs.Outputs.{entry_output, entries_output, read_output, written_output, fails_output};
+ghost use Rattle.std.specs.Prelude.{◌≡◌, IfOk};
+ghost use Rattle.dkv_msgs.specs.Outputs.{entry_output, entries_output, told_range, told, read_output, written_output, fails_output};
 ghost use Rattle.dkv_msgs.specs.Spellings.{spell_kv_entry, spell_range_output, spell_snapshot_read_output, spell_atomic_write_output};
 
 use crate::write_fields::{Spelled, add_bytes, add_messages, add_number, add_numbers, add_signed};
@@ -10,40 +10,38 @@ use dkv_wire::Out;
 use std::alloc::Global;
 
 /// An entry is told with the stamp of the commit that wrote it.
-impl Spelled for Entry {
-    ghost spelling = { λ e. spell_kv_entry (entry_output e) };
+impl<'a> Spelled for &'a Entry {
+    ghost spelling = { λ e. spell_kv_entry (entry_output e.now) };
 
     ghost fits = { λ _. Unit {0} };
 
-    fn spell(&self, alloc: Global) -> Result<Bytes, NoMemory> {
-        let mut out = Out::new(alloc);
-        add_bytes(&mut out, 1, self.key.as_slice())?;
-        add_bytes(&mut out, 2, self.bytes.as_slice())?;
-        add_signed(&mut out, 3, i64::from(self.encoding))?;
-        add_bytes(&mut out, 4, &stamp_of(self.commit))?;
-        Ok(out.finish())
+    fn spell(&self, out: &mut Out) -> Result<(), NoMemory> {
+        add_bytes(out, 1, self.key.as_slice())?;
+        add_bytes(out, 2, self.bytes.as_slice())?;
+        add_signed(out, 3, i64::from(self.encoding))?;
+        add_bytes(out, 4, &stamp_of(self.commit))
     }
 }
 
 /// The entries of one range.
-impl Spelled for Run<Entry> {
-    ghost spelling = { λ es. spell_range_output (entries_output es) };
+impl<'a> Spelled for Run<&'a Entry> {
+    ghost spelling = { λ es. spell_range_output (entries_output (told_range es)) };
 
     ghost fits = { λ _. Unit {0} };
 
-    fn spell(&self, alloc: Global) -> Result<Bytes, NoMemory> {
-        let mut out = Out::new(alloc);
-        add_messages(alloc, &mut out, 1, self.as_slice())?;
-        Ok(out.finish())
+    fn spell(&self, out: &mut Out) -> Result<(), NoMemory> {
+        add_messages(out, 1, self.as_slice())?;
+        Ok(())
     }
 }
 
-/// The reply to a read: the entries of each range, strongly consistent, with status 1.
-pub fn read_reply(alloc: Global, ranges: Run<Run<Entry>>) -> Result<Bytes, NoMemory>
-    ensures { IfOk result (λ b. b ≡ spell_snapshot_read_output (read_output ranges)) }
+/// The reply to a read: the entries of each range, strongly consistent, with status 1. They are copied once, into the
+/// reply.
+pub fn read_reply(alloc: Global, ranges: &[Run<&Entry>]) -> Result<Bytes, NoMemory>
+    ensures { IfOk result (λ b. b ≡ spell_snapshot_read_output (read_output (told ranges.now))) }
 {
     let mut out = Out::new(alloc);
-    add_messages(alloc, &mut out, 1, ranges.as_slice())?;
+    add_messages(&mut out, 1, ranges)?;
     add_number(&mut out, 4, 1)?;
     add_number(&mut out, 8, 1)?;
     Ok(out.finish())
@@ -65,6 +63,6 @@ pub fn fails_reply(alloc: Global, failed: Run<u32>) -> Result<Bytes, NoMemory>
 {
     let mut out = Out::new(alloc);
     add_number(&mut out, 1, 2)?;
-    add_numbers(alloc, &mut out, 4, failed.as_slice())?;
+    add_numbers(&mut out, 4, failed.as_slice())?;
     Ok(out.finish())
 }

@@ -5,6 +5,9 @@ use crate::{
     write_atomic_write, write_atomic_write_output, write_snapshot_read, write_snapshot_read_output,
     write_watch, write_watch_output, written_reply,
 };
+
+mod requests;
+
 use dkv_base::{Bytes, NoMemory, Run};
 use std::alloc::Global;
 use std::test::Fail;
@@ -245,7 +248,7 @@ fn a_frame_has_the_fields_that_protoc_shows(rt: HostRuntime) -> Result<(), Fail>
 fn one_empty_range(alloc: Global) -> Result<Bytes, NoMemory> {
     let mut ranges = Run::new(alloc);
     ranges.add(Run::new(alloc))?;
-    read_reply(alloc, ranges)
+    read_reply(alloc, ranges.as_slice())
 }
 
 fn first_check_fails(alloc: Global) -> Result<Bytes, NoMemory> {

@@ -16,7 +16,7 @@ pub fn write_snapshot_read(alloc: Global, message: &SnapshotRead) -> Result<Byte
     ensures back { IfOk result (λ b. reads_snapshot_read b ≡ Ok message.now) }
 {
     let mut out = Out::new(alloc);
-    add_messages(alloc, &mut out, 1, message.ranges.as_slice())?;
+    add_messages(&mut out, 1, message.ranges.as_slice())?;
     Ok(out.finish())
 }
 
@@ -29,7 +29,7 @@ pub fn write_snapshot_read_output(
     ensures back { IfOk result (λ b. reads_snapshot_read_output b ≡ Ok message.now) }
 {
     let mut out = Out::new(alloc);
-    add_messages(alloc, &mut out, 1, message.ranges.as_slice())?;
+    add_messages(&mut out, 1, message.ranges.as_slice())?;
     add_flag(&mut out, 2, message.read_disabled)?;
     add_flag(&mut out, 4, message.strong)?;
     add_signed(&mut out, 8, i64::from(message.status))?;
@@ -42,9 +42,9 @@ pub fn write_atomic_write(alloc: Global, message: &AtomicWrite) -> Result<Bytes,
     ensures back { IfOk result (λ b. reads_atomic_write b ≡ Ok message.now) }
 {
     let mut out = Out::new(alloc);
-    add_messages(alloc, &mut out, 1, message.checks.as_slice())?;
-    add_messages(alloc, &mut out, 2, message.mutations.as_slice())?;
-    add_messages(alloc, &mut out, 3, message.enqueues.as_slice())?;
+    add_messages(&mut out, 1, message.checks.as_slice())?;
+    add_messages(&mut out, 2, message.mutations.as_slice())?;
+    add_messages(&mut out, 3, message.enqueues.as_slice())?;
     Ok(out.finish())
 }
 
@@ -59,7 +59,7 @@ pub fn write_atomic_write_output(
     let mut out = Out::new(alloc);
     add_signed(&mut out, 1, i64::from(message.status))?;
     add_bytes(&mut out, 2, message.versionstamp.as_slice())?;
-    add_numbers(alloc, &mut out, 4, message.failed_checks.as_slice())?;
+    add_numbers(&mut out, 4, message.failed_checks.as_slice())?;
     Ok(out.finish())
 }
 
@@ -69,7 +69,7 @@ pub fn write_watch(alloc: Global, message: &Watch) -> Result<Bytes, NoMemory>
     ensures back { IfOk result (λ b. reads_watch b ≡ Ok message.now) }
 {
     let mut out = Out::new(alloc);
-    add_messages(alloc, &mut out, 1, message.keys.as_slice())?;
+    add_messages(&mut out, 1, message.keys.as_slice())?;
     Ok(out.finish())
 }
 
@@ -80,6 +80,6 @@ pub fn write_watch_output(alloc: Global, message: &WatchOutput) -> Result<Bytes,
 {
     let mut out = Out::new(alloc);
     add_signed(&mut out, 1, i64::from(message.status))?;
-    add_messages(alloc, &mut out, 2, message.keys.as_slice())?;
+    add_messages(&mut out, 2, message.keys.as_slice())?;
     Ok(out.finish())
 }

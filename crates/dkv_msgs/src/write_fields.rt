@@ -1,5 +1,5 @@
 // The fields of messages, as they are written.
-ghost use Rattle.std.specs.Prelude.{◌≡◌, ℕ, List, [], ◌++◌, flat_map, OnOk, IfOk, IfSome, All};
+ghost use Rattle.std.specs.Prelude.{◌≡◌, ℕ, List, [], ◌++◌, flat_map, OnOk, IfSome, All};
 ghost use Rattle.std.specs.Option.{option_map_or};
 ghost use Rattle.dkv_base.specs.Protobuf.{flag, unsigned, varint, delimited, number_field, bytes_field, numbers_field};
 ghost use Rattle.dkv_wire.specs.Wire.{IsFieldNumber};
@@ -9,7 +9,6 @@ ghost use Rattle.dkv_msgs.specs.Spellings.{all_delimited, delimited_if_some};
 use dkv_base::{Bytes, NoMemory};
 use dkv_wire::Out;
 use dkv_wire::limits::{MAX_HEAD_BYTES, MAX_VARINT_BYTES};
-use std::alloc::Global;
 
 /// What is written as an embedded message.
 pub trait Spelled {
@@ -17,9 +16,9 @@ pub trait Spelled {
 
     ghost fits: { Self → Type 0 };
 
-    /// The canonical spelling.
-    fn spell(&self, alloc: Global) -> Result<Bytes, NoMemory>
-        ensures spelled { IfOk result (λ b. b ≡ spelling self.now) }
+    /// Appends the canonical spelling.
+    fn spell(&self, out: &mut Out) -> Result<(), NoMemory>
+        ensures spelled { OnOk result (out.new.bytes ≡ out.old.bytes ++ spelling self.now) }
         // Its numbers fit their types, as those of each value do.
         ensures fits { OnOk result (fits self.now) };
 }
@@ -78,30 +77,28 @@ pub fn add_bytes(out: &mut Out, field: u32, bytes: &[u8]) -> Result<(), NoMemory
 }
 
 #[tactic(auto, using(dkv_wire::proofs::Sizes::varint_size))]
-fn varints(alloc: Global, numbers: &[u32]) -> Result<Bytes, NoMemory>
-    ensures { IfOk result (λ b. b ≡ flat_map varint numbers.now) }
+fn add_varints(out: &mut Out, numbers: &[u32]) -> Result<(), NoMemory>
+    ensures { OnOk result (out.new.bytes ≡ out.old.bytes ++ flat_map varint numbers.now) }
 {
-    let mut out = Out::new(alloc);
     for n in numbers {
         out.reserve(usize::from(MAX_VARINT_BYTES))?;
         out.put_varint(u64::from(*n));
     }
-    Ok(out.finish())
+    Ok(())
 }
 
 /// Appends numbers, packed in one field, where there are any.
-pub fn add_numbers(
-    alloc: Global,
-    out: &mut Out,
-    field: u32,
-    numbers: &[u32],
-) -> Result<(), NoMemory>
+pub fn add_numbers(out: &mut Out, field: u32, numbers: &[u32]) -> Result<(), NoMemory>
     requires { IsFieldNumber field }
     ensures bytes { OnOk result (out.new.bytes ≡ out.old.bytes ++ numbers_field field numbers.now) }
     ensures fits { OnOk result (NumbersFit numbers.now) }
 {
-    let packed = varints(alloc, numbers)?;
-    add_bytes(out, field, packed.as_slice())
+    let from = out.len();
+    add_varints(out, numbers)?;
+    if out.len() > from {
+        out.enclose(field, from)?;
+    }
+    Ok(())
 }
 
 /// Appends each payload in order, even if it is empty.
@@ -117,24 +114,20 @@ pub fn add_payloads(out: &mut Out, field: u32, payloads: &[Bytes]) -> Result<(),
 }
 
 /// Appends an embedded message, even if it is empty.
-pub fn add_message<M: Spelled>(
-    alloc: Global,
-    out: &mut Out,
-    field: u32,
-    message: &M,
-) -> Result<(), NoMemory>
+pub fn add_message<M: Spelled>(out: &mut Out, field: u32, message: &M) -> Result<(), NoMemory>
     requires { IsFieldNumber field }
     ensures bytes { OnOk result
         (out.new.bytes ≡ out.old.bytes ++ delimited field (M.spelling message.now)) }
     ensures fits { OnOk result (M.fits message.now) }
 {
-    let spelled = message.spell(alloc)?;
-    add_delimited(out, field, spelled.as_slice())
+    let from = out.len();
+    message.spell(out)?;
+    out.enclose(field, from)?;
+    Ok(())
 }
 
 /// Appends an embedded message, where there is one.
 pub fn add_optional<M: Spelled>(
-    alloc: Global,
     out: &mut Out,
     field: u32,
     message: &Option<M>,
@@ -146,24 +139,19 @@ pub fn add_optional<M: Spelled>(
 {
     match message {
         None => Ok(()),
-        Some(message) => add_message(alloc, out, field, message),
+        Some(message) => add_message(out, field, message),
     }
 }
 
 /// Appends each embedded message in order.
-pub fn add_messages<M: Spelled>(
-    alloc: Global,
-    out: &mut Out,
-    field: u32,
-    messages: &[M],
-) -> Result<(), NoMemory>
+pub fn add_messages<M: Spelled>(out: &mut Out, field: u32, messages: &[M]) -> Result<(), NoMemory>
     requires { IsFieldNumber field }
     ensures bytes { OnOk result
         (out.new.bytes ≡ out.old.bytes ++ all_delimited field M.spelling messages.now) }
     ensures fits { OnOk result (All M.fits messages.now) }
 {
     for message in messages {
-        add_message(alloc, out, field, message)?;
+        add_message(out, field, message)?;
     }
     Ok(())
 }

@@ -11,20 +11,17 @@ use crate::write_fields::{
 };
 use dkv_base::{Bytes, Check, Enqueue, Mutation, NoMemory, ReadRange, Run, Value};
 use dkv_wire::Out;
-use std::alloc::Global;
 
 impl Spelled for ReadRange {
     ghost spelling = { λ r. spell_range r };
 
     ghost fits = { RangeFits };
 
-    fn spell(&self, alloc: Global) -> Result<Bytes, NoMemory> {
-        let mut out = Out::new(alloc);
-        add_bytes(&mut out, 1, self.start.as_slice())?;
-        add_bytes(&mut out, 2, self.end.as_slice())?;
-        add_signed(&mut out, 3, i64::from(self.limit))?;
-        add_flag(&mut out, 4, self.reverse)?;
-        Ok(out.finish())
+    fn spell(&self, out: &mut Out) -> Result<(), NoMemory> {
+        add_bytes(out, 1, self.start.as_slice())?;
+        add_bytes(out, 2, self.end.as_slice())?;
+        add_signed(out, 3, i64::from(self.limit))?;
+        add_flag(out, 4, self.reverse)
     }
 }
 
@@ -33,11 +30,9 @@ impl Spelled for Check {
 
     ghost fits = { λ _. Unit {0} };
 
-    fn spell(&self, alloc: Global) -> Result<Bytes, NoMemory> {
-        let mut out = Out::new(alloc);
-        add_bytes(&mut out, 1, self.key.as_slice())?;
-        add_bytes(&mut out, 2, self.versionstamp.as_slice())?;
-        Ok(out.finish())
+    fn spell(&self, out: &mut Out) -> Result<(), NoMemory> {
+        add_bytes(out, 1, self.key.as_slice())?;
+        add_bytes(out, 2, self.versionstamp.as_slice())
     }
 }
 
@@ -46,11 +41,9 @@ impl Spelled for Value {
 
     ghost fits = { ValueFits };
 
-    fn spell(&self, alloc: Global) -> Result<Bytes, NoMemory> {
-        let mut out = Out::new(alloc);
-        add_bytes(&mut out, 1, self.bytes.as_slice())?;
-        add_signed(&mut out, 2, i64::from(self.encoding))?;
-        Ok(out.finish())
+    fn spell(&self, out: &mut Out) -> Result<(), NoMemory> {
+        add_bytes(out, 1, self.bytes.as_slice())?;
+        add_signed(out, 2, i64::from(self.encoding))
     }
 }
 
@@ -59,13 +52,12 @@ impl Spelled for Mutation {
 
     ghost fits = { MutationFits };
 
-    fn spell(&self, alloc: Global) -> Result<Bytes, NoMemory> {
-        let mut out = Out::new(alloc);
-        add_bytes(&mut out, 1, self.key.as_slice())?;
-        add_optional(alloc, &mut out, 2, &self.value)?;
-        add_signed(&mut out, 3, i64::from(self.kind))?;
-        add_signed(&mut out, 4, self.expire_at_ms)?;
-        Ok(out.finish())
+    fn spell(&self, out: &mut Out) -> Result<(), NoMemory> {
+        add_bytes(out, 1, self.key.as_slice())?;
+        add_optional(out, 2, &self.value)?;
+        add_signed(out, 3, i64::from(self.kind))?;
+        add_signed(out, 4, self.expire_at_ms)?;
+        Ok(())
     }
 }
 
@@ -74,13 +66,11 @@ impl Spelled for Enqueue {
 
     ghost fits = { EnqueueFits };
 
-    fn spell(&self, alloc: Global) -> Result<Bytes, NoMemory> {
-        let mut out = Out::new(alloc);
-        add_bytes(&mut out, 1, self.payload.as_slice())?;
-        add_signed(&mut out, 2, self.deadline_ms)?;
-        add_payloads(&mut out, 3, self.undelivered.as_slice())?;
-        add_numbers(alloc, &mut out, 4, self.backoff.as_slice())?;
-        Ok(out.finish())
+    fn spell(&self, out: &mut Out) -> Result<(), NoMemory> {
+        add_bytes(out, 1, self.payload.as_slice())?;
+        add_signed(out, 2, self.deadline_ms)?;
+        add_payloads(out, 3, self.undelivered.as_slice())?;
+        add_numbers(out, 4, self.backoff.as_slice())
     }
 }
 
@@ -90,10 +80,8 @@ impl Spelled for Bytes {
 
     ghost fits = { λ _. Unit {0} };
 
-    fn spell(&self, alloc: Global) -> Result<Bytes, NoMemory> {
-        let mut out = Out::new(alloc);
-        add_bytes(&mut out, 1, self.as_slice())?;
-        Ok(out.finish())
+    fn spell(&self, out: &mut Out) -> Result<(), NoMemory> {
+        add_bytes(out, 1, self.as_slice())
     }
 }
 
@@ -102,13 +90,11 @@ impl Spelled for KvEntry {
 
     ghost fits = { EntryFits };
 
-    fn spell(&self, alloc: Global) -> Result<Bytes, NoMemory> {
-        let mut out = Out::new(alloc);
-        add_bytes(&mut out, 1, self.key.as_slice())?;
-        add_bytes(&mut out, 2, self.value.as_slice())?;
-        add_signed(&mut out, 3, i64::from(self.encoding))?;
-        add_bytes(&mut out, 4, self.versionstamp.as_slice())?;
-        Ok(out.finish())
+    fn spell(&self, out: &mut Out) -> Result<(), NoMemory> {
+        add_bytes(out, 1, self.key.as_slice())?;
+        add_bytes(out, 2, self.value.as_slice())?;
+        add_signed(out, 3, i64::from(self.encoding))?;
+        add_bytes(out, 4, self.versionstamp.as_slice())
     }
 }
 
@@ -118,10 +104,8 @@ impl Spelled for Run<KvEntry> {
 
     ghost fits = { All EntryFits };
 
-    fn spell(&self, alloc: Global) -> Result<Bytes, NoMemory> {
-        let mut out = Out::new(alloc);
-        add_messages(alloc, &mut out, 1, self.as_slice())?;
-        Ok(out.finish())
+    fn spell(&self, out: &mut Out) -> Result<(), NoMemory> {
+        add_messages(out, 1, self.as_slice())
     }
 }
 
@@ -130,10 +114,8 @@ impl Spelled for WatchKeyOutput {
 
     ghost fits = { KeyOutputFits };
 
-    fn spell(&self, alloc: Global) -> Result<Bytes, NoMemory> {
-        let mut out = Out::new(alloc);
-        add_flag(&mut out, 1, self.changed)?;
-        add_optional(alloc, &mut out, 2, &self.entry)?;
-        Ok(out.finish())
+    fn spell(&self, out: &mut Out) -> Result<(), NoMemory> {
+        add_flag(out, 1, self.changed)?;
+        add_optional(out, 2, &self.entry)
     }
 }
