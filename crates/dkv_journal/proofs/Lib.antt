@@ -1,0 +1,5 @@
+pub mod Keeping
+pub mod Prefix
+pub mod Scans
+pub mod Stepping
+pub mod Torn

@@ -1,0 +1,4 @@
+pub mod Crashes
+pub mod Laws
+pub mod Records
+pub mod Scanning
