@@ -1,7 +1,7 @@
 mod Shown
 mod Back
 mod BackEmbedded
-mod BackMessages
+pub mod BackMessages
 mod Short
 mod WholePayloads
 mod ShortMessages

@@ -42,11 +42,13 @@ none_bad at bytes (i ∷ items) are =
     let span : at + (length (are.0 ++ are.1) - length are.1) ≡ at + length are.0 = omega (arith, length-append are.0 are.1) in
     ap (bad at) are.2 ∙ bad_found at (are.0 ++ are.1) i.number i.content are.1 found ∙ ap (λ (k : ℕ). bad k are.1) span ∙ none_bad (at + length are.0) are.1 items are.6
 
+-- bytes that are these fields have no bad place, and this list
 pub is_listed : (at : ℕ) (bytes : List ℕ) (items : List Item) → AreFields at bytes items → (bad at bytes ≡ None) × (fields at bytes ≡ items)
 is_listed at bytes items are =
     let none = none_bad at bytes items are in
     (none, one_list at bytes (fields at bytes) items (are_listed (length bytes) at bytes (omega arith) none) are)
 
+-- bytes with a bad place are fields up to it
 pub stops : (more at : ℕ) (bytes : List ℕ) (place : ℕ) → length bytes ≤ more → bad at bytes ≡ Some place → StopsAt at bytes place (fields at bytes)
 stops more at [] place le is = absurd (none_is place (sym (bad_end at) ∙ is))
 stops zero at (b ∷ bytes) place le is = absurd (omega (arith, le))
