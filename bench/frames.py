@@ -1,6 +1,8 @@
 """Writes frames of a pipe to standard output: python3 frames.py KIND KEYS FRAMES [SETS VALUE].
 
 load     SETs of KEYS keys to LE64 numbers, 1,000 in a frame
+falling  the same SETs from the last key to the first       random   the same SETs in an order drawn from a fixed seed
+dying    the same SETs, where all keys end at one moment, and at that moment as many frames of one SET each
 endings  the same SETs, where a tenth of the keys ends at each of ten moments
 waiting  KEYS messages, 1,000 in a frame
 writes   frames of SETS SETs each, to values of VALUE bytes
@@ -12,6 +14,7 @@ read, range, set and sum begin with a load, expiry with endings and round with w
 that jumps, and messages are due in an order that jumps.
 """
 import heapq
+import random
 import struct
 import sys
 
@@ -106,6 +109,16 @@ def main():
         out.writelines(load(keys, lambda i: mutation(SET, i, one, LE64, 10 + i % 10)))
         if kind == "expiry":
             out.writelines(expiries(keys, frames))
+        return
+    if kind in ("falling", "random"):
+        order = list(reversed(range(keys)))
+        if kind == "random":
+            random.Random(1).shuffle(order)
+        out.writelines(load(keys, lambda i: mutation(SET, order[i], one, LE64)))
+        return
+    if kind == "dying":
+        out.writelines(load(keys, lambda i: mutation(SET, i, one, LE64, 10)))
+        out.writelines(frame(WRITE, mutation(SET, 0, one, LE64), 10) for _ in range(frames))
         return
     out.writelines(load(keys, lambda i: mutation(SET, i, one, LE64)))
     for i in range(frames):

@@ -1,8 +1,9 @@
 #!/bin/sh
 # How fast `denokv pipe` answers frames: megabytes a second for writes of small and of large values, how the time grows with
 # the number of frames, frames a second for reads and writes over 1,000 and over 100,000 keys, also where a tenth of the keys
-# ends at each step, and rounds a second of an enqueue, a take and an acknowledgement while 10 and while 100,000 messages
-# wait. Skipped where python3 is missing.
+# ends at each step, a million SETs in three orders with the memory that they take, the moment at which 100,000 keys end, and
+# rounds a second of an enqueue, a take and an acknowledgement while 10 and while 100,000 messages wait. Skipped where python3
+# is missing.
 set -u
 cd "$(dirname "$0")/.." || exit 2
 if ! command -v python3 >/dev/null 2>&1; then
@@ -28,6 +29,16 @@ print(f"{best:.4f}")
 PYTHON
 }
 
+# memory FILE: the most bytes that a run over the frames of the file had in memory
+memory() {
+    python3 - "$1" <<'PYTHON'
+import resource, subprocess, sys
+with open(sys.argv[1], "rb") as source:
+    subprocess.run(["crates/dkv_app/out/dkv_app", "pipe"], stdin=source, stdout=subprocess.DEVNULL, check=True)
+print(resource.getrusage(resource.RUSAGE_CHILDREN).ru_maxrss * 1024)
+PYTHON
+}
+
 # writes SETS VALUE FRAMES
 writes() {
     python3 bench/frames.py writes 1000 "$3" "$1" "$2" >"$folder/frames" || exit 1
@@ -48,6 +59,21 @@ over() {
         }'
 }
 
+# filled KIND: a million SETs in an order, and the memory of each entry beside its key of 9 bytes and its value of 8
+filled() {
+    python3 bench/frames.py "$1" 1000000 0 >"$folder/frames" || exit 1
+    awk -v kind="$1" -v s="$(seconds "$folder/frames")" -v most="$(memory "$folder/frames")" -v none="$(memory /dev/null)" \
+        'BEGIN { printf "a million SETs, %-7s keys: %.2f s, %.0f bytes an entry\n", kind, s, (most - none) / 1000000 - 17 }'
+}
+
+# dying KEYS: the time of the one SET at which all keys end
+dying() {
+    python3 bench/frames.py dying "$1" 0 >"$folder/load" || exit 1
+    python3 bench/frames.py dying "$1" 1 >"$folder/frames" || exit 1
+    awk -v keys="$1" -v all="$(seconds "$folder/frames")" -v load="$(seconds "$folder/load")" -v most="$(memory "$folder/load")" -v none="$(memory /dev/null)" \
+        'BEGIN { printf "%d keys that end at one moment: %.3f s, %.0f bytes an entry before\n", keys, all - load, (most - none) / keys - 17 }'
+}
+
 for frames in 1000 10000 100000; do
     writes 10 8 "$frames"
 done
@@ -61,6 +87,10 @@ for keys in 1000 100000; do
     over load sum "$keys" 500000
     over endings expiry "$keys" 50000
 done
+for order in load falling random; do
+    filled "$order"
+done
+dying 100000
 for waiting in 10 100000; do
     over waiting round "$waiting" 200000
 done

@@ -4,17 +4,17 @@ ghost use Rattle.dkv_base.specs.State.{put, without, visible, is_in_key_order};
 ghost use Rattle.dkv_core.specs.Cores.{ends, put_all, without_all};
 ghost use Rattle.dkv_core.specs.Entries.{forgot};
 
-use crate::put::{Put, count_endings, puts_of};
+use crate::put::{Put, count_endings};
 use dkv_base::{Bytes, Entry, NoMemory, Run};
 use dkv_expiry::Expiry;
-use dkv_table::{Plain, Table, copies};
+use dkv_table::{Blocks, Table, copies};
 use std::alloc::Global;
 use std::marker::Model;
 
 /// The table and its index. Contracts see the entries and the room.
 #[derive(Drop)]
 pub(crate) struct Entries {
-    table: Plain,
+    table: Blocks,
     expiry: Expiry,
 }
 
@@ -24,12 +24,12 @@ impl Model for Entries {
     ghost Value = { Stored };
 
     ghost view = { λ e. record {
-      entries = ⟦<Plain as Table>⟧.content e.table;
-      spare = ⟦<Plain as Table>⟧.spare e.table;
+      entries = ⟦<Blocks as Table>⟧.content e.table;
+      spare = ⟦<Blocks as Table>⟧.spare e.table;
       endings = e.expiry.spare;
     } };
 
-    ghost invariant = { λ e. IsIndexed (⟦<Plain as Table>⟧.content e.table) e.expiry.pairs };
+    ghost invariant = { λ e. IsIndexed (⟦<Blocks as Table>⟧.content e.table) e.expiry.pairs };
 }
 
 impl Entries {
@@ -38,21 +38,31 @@ impl Entries {
         ensures { result ≡ record { entries = []; spare = 0; endings = 0 } }
     {
         Entries {
-            table: Plain::new(alloc),
+            table: Blocks::new(alloc),
             expiry: Expiry::new(alloc),
         }
     }
 
-    /// Holds these entries. Takes memory for their index.
+    /// Holds these entries. Takes memory for them and for their index, as each is put.
     pub(crate) fn of(alloc: Global, entries: Run<Entry>) -> Result<Entries, NoMemory>
         requires { IsTrue (is_in_key_order entries) }
         ensures { IfOk result (λ e. e.entries ≡ entries) }
     {
-        let puts = puts_of(alloc, entries)?;
         let mut made = Entries::new(alloc);
-        made.reserve(&puts)?;
-        made.put_all(puts);
+        for entry in entries.into_vec() {
+            made.add(Put::of(alloc, entry)?)?;
+        }
         Ok(made)
+    }
+
+    // Makes room for the entry, and puts it.
+    fn add(&mut self, new: Put) -> Result<(), NoMemory>
+        ensures { OnOk result (self.new.entries ≡ put new self.old.entries) }
+    {
+        self.table.reserve(1)?;
+        self.expiry.reserve(1)?;
+        self.put(new);
+        Ok(())
     }
 
     /// The same entries. Takes memory for them.
@@ -64,8 +74,8 @@ impl Entries {
     }
 
     /// The table alone.
-    pub(crate) fn table(&self) -> &Plain
-        ensures { ⟦<Plain as Table>⟧.content result.now ≡ self.now.entries }
+    pub(crate) fn table(&self) -> &Blocks
+        ensures { ⟦<Blocks as Table>⟧.content result.now ≡ self.now.entries }
     {
         &self.table
     }

@@ -16,7 +16,7 @@ use crate::entries::Entries;
 use crate::reading::{copy_all, find_all};
 use dkv_base::{Call, Entry, MAX_MOMENT, Message, MsgId, NoMemory, ReadRange, Run};
 use dkv_queue::Queue;
-use dkv_table::{Plain, Table};
+use dkv_table::{Blocks, Table};
 use std::alloc::Global;
 use std::marker::Model;
 
@@ -139,8 +139,8 @@ impl Core {
     }
 
     /// What is stored. Takes no memory.
-    pub fn table(&self) -> &Plain
-        ensures { ⟦<Plain as Table>⟧.content result.now ≡ self.now.state.entries }
+    pub fn table(&self) -> &Blocks
+        ensures { ⟦<Blocks as Table>⟧.content result.now ≡ self.now.state.entries }
     {
         self.entries.table()
     }

@@ -10,12 +10,12 @@ use Rattle.dkv_base.proofs.RankedLists as ranked
 use Rattle.dkv_table.specs.Places.{is_above, marker, IsAt, IsGap}
 use Rattle.dkv_table.proofs.Keys.{itself, entry_total, entry_at-found, without-left_out}
 
--- the entries before a place, and from it on
-parts : (es : List Entry) (at : ℕ) → es ≡ take at es ++ drop at es
+-- the items before a place, and from it on
+parts : {X : Type 0} (es : List X) (at : ℕ) → es ≡ take at es ++ drop at es
 parts es at = sym (take-append-drop at es)
 
 -- and with the one at the place
-around : (es : List Entry) (at : ℕ) (d : Entry) → at < length es → es ≡ take at es ++ get_or es at d ∷ drop (suc at) es
+pub around : {X : Type 0} (es : List X) (at : ℕ) (d : X) → at < length es → es ≡ take at es ++ get_or es at d ∷ drop (suc at) es
 around es at d lt = parts es at ∙ ap (λ fs. take at es ++ fs) (drop-cons es at d lt)
 
 -- a key that is below all keys is under none of them
@@ -43,7 +43,7 @@ put-gap e es at gap =
     ∙ ap (λ fs. take at es ++ fs) (ranked.put_in-above entry_total e (drop at es) gap.above)
 
 -- an item set at a place stands between those before and those after
-set_parts : (es : List Entry) (at : ℕ) (e : Entry) → at < length es → set es at e ≡ take at es ++ e ∷ drop (suc at) es
+pub set_parts : {X : Type 0} (es : List X) (at : ℕ) (e : X) → at < length es → set es at e ≡ take at es ++ e ∷ drop (suc at) es
 set_parts [] at e lt = absurd (omega arith)
 set_parts (f ∷ fs) zero e lt = refl
 set_parts (f ∷ fs) (suc at) e lt = ap (λ gs. f ∷ gs) (set_parts fs at e (omega arith))

@@ -3,4 +3,7 @@ pub mod Lists
 mod Places
 pub mod Edits
 mod Ranges
+mod Parts
+mod KeyBlocks
+mod Walking
 mod Answering

@@ -4,7 +4,7 @@ use Rattle.std.specs.List.{list_all}
 use Rattle.std.proofs.lemmas.Bool.{and_parts, and_from}
 
 -- what is not so fails
-fails : (b : Bool) → not b ≡ true → b ≡ false
+pub fails : (b : Bool) → not b ≡ true → b ≡ false
 fails true h = sym h
 fails false h = refl
 
@@ -27,6 +27,12 @@ module _ {X : Type 0} (p : X → Bool) where
   all_of_drop xs zero all = all
   all_of_drop [] (suc i) all = refl
   all_of_drop (x ∷ xs) (suc i) all = all_of_drop xs i (and_parts _ _ all).1
+
+  -- and of those before it
+  pub all_of_take : (xs : List X) (i : ℕ) → list_all p xs ≡ true → list_all p (take i xs) ≡ true
+  all_of_take xs zero all = refl
+  all_of_take [] (suc i) all = refl
+  all_of_take (x ∷ xs) (suc i) all = and_from _ _ (and_parts _ _ all).0 (all_of_take xs i (and_parts _ _ all).1)
 
   -- a filter keeps what all pass
   pub filter-all : (xs : List X) → list_all p xs ≡ true → filter p xs ≡ xs

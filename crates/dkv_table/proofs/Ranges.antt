@@ -5,9 +5,7 @@ use Rattle.std.specs.Ordering.{is_lt}
 use Rattle.std.proofs.lemmas.List.{drop-take, drop-drop}
 use Rattle.dkv_base.specs.declared.types.Entry.{Entry}
 use Rattle.dkv_base.specs.State.{key_cmp, is_between}
-use Rattle.dkv_base.specs.Replies.{turned}
 use Rattle.dkv_table.specs.Places.{is_below, is_from, IsStart}
-use Rattle.dkv_table.specs.Walks.{walked}
 use Rattle.dkv_table.proofs.Keys.{le-turned}
 use Rattle.dkv_base.proofs.Lists.{all_weaker}
 use Rattle.dkv_table.proofs.Lists.{all_of_drop, filter-drop, filter-take, filter-none, filter-and}
@@ -31,7 +29,7 @@ module _ (start end : List ℕ) (es : List Entry) (from to : ℕ) (begins : IsSt
   past n = all_of_drop _ _ n (all_weaker (is_from end) (λ e. not (is_below end e)) (λ e h. sym (le-turned e.key end) ∙ h) _ ends.onward)
 
   -- so those in the range stand from the first place to the last
-  between-range : from ≤ to → filter is_within es ≡ slice_range es from to
+  pub between-range : from ≤ to → filter is_within es ≡ slice_range es from to
   between-range le =
       let reaches : from + (to - from) ≡ to = omega arith in
       let all : list_all (is_below end) (take (to - from) (drop from es)) ≡ true =
@@ -40,15 +38,7 @@ module _ (start end : List ℕ) (es : List Entry) (from to : ℕ) (begins : IsSt
       onward ∙ filter-take (is_below end) (drop from es) (to - from) all none
 
   -- and there are none where the places don't rise
-  between-none : to ≤ from → filter is_within es ≡ []
+  pub between-none : to ≤ from → filter is_within es ≡ []
   between-none le =
       let reaches : to + (from - to) ≡ from = omega arith in
       onward ∙ filter-none (is_below end) (drop from es) (rw (← reaches, ← drop-drop (from - to) to es) (past (from - to)))
-
-  -- a walk gives them up or down
-  pub walked-range : (reverse : Bool) → from ≤ to → turned reverse (slice_range es from to) ≡ walked start end reverse es
-  walked-range reverse le = ap (turned reverse) (sym (between-range le))
-
-  -- or gives none
-  pub walked-none : (reverse : Bool) → to ≤ from → turned reverse [] ≡ walked start end reverse es
-  walked-none reverse le = ap (turned reverse) (sym (between-none le))

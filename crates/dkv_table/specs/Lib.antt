@@ -1,4 +1,5 @@
 pub mod Walks
 pub mod Rests
 pub mod Places
+pub mod Blocks
 pub mod Runs

@@ -1,6 +1,8 @@
 // A walk over entries.
-ghost use Rattle.std.specs.Prelude.{◌≡◌, [], ◌∷◌, IfSome, IfNone, IfOk};
+ghost use Rattle.std.specs.Prelude.{◌≡◌, [], ◌∷◌, ◌++◌, IfSome, IfNone, IfOk};
 
+use crate::block::Block;
+use crate::rest::{Rest, take_first, take_last};
 use dkv_base::{Entry, NoMemory, Run, TryCopy};
 use std::alloc::Global;
 use std::marker::Model;
@@ -10,12 +12,6 @@ use std::marker::Model;
 pub struct Cursor<'a> {
     rest: Rest<'a>,
     reverse: bool,
-}
-
-// What is still to come, in key order, as the table keeps it.
-#[derive(Drop)]
-enum Rest<'a> {
-    Slice(&'a [Entry]),
 }
 
 impl<'a> Model for Cursor<'a> {
@@ -32,15 +28,30 @@ impl<'a> Model for Cursor<'a> {
 
 impl<'a> Cursor<'a> {
     ghost use Rattle.dkv_base.specs.Replies.{turned};
+    ghost use Rattle.dkv_table.specs.Blocks.{joined};
 
     // Goes over these entries, from the back where `reverse`.
     pub(crate) fn over(entries: &'a [Entry], reverse: bool) -> Cursor<'a>
         ensures { result ≡ turned reverse entries.now }
     {
-        Cursor {
-            rest: Rest::Slice(entries),
-            reverse,
-        }
+        Cursor::across(entries, &[], &[], reverse)
+    }
+
+    // Goes over these entries, those of the blocks and then these, from the back where `reverse`.
+    pub(crate) fn across(
+        front: &'a [Entry],
+        middle: &'a [Block],
+        back: &'a [Entry],
+        reverse: bool,
+    ) -> Cursor<'a>
+        ensures { result ≡ turned reverse (front.now ++ joined middle.now ++ back.now) }
+    {
+        let rest = Rest {
+            front,
+            middle,
+            back,
+        };
+        Cursor { rest, reverse }
     }
 
     /// The next entry, or none where none is left. Takes no memory.
@@ -49,16 +60,10 @@ impl<'a> Cursor<'a> {
         ensures ended { IfNone result (self.old ≡ []) }
         ensures stays { IfNone result (self.new ≡ []) }
     {
-        match self.rest {
-            Rest::Slice(entries) => {
-                let (entry, rest) = if self.reverse {
-                    entries.split_last()?
-                } else {
-                    entries.split_first()?
-                };
-                self.rest = Rest::Slice(rest);
-                Some(entry)
-            }
+        if self.reverse {
+            take_last(&mut self.rest)
+        } else {
+            take_first(&mut self.rest)
         }
     }
 }

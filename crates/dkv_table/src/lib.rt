@@ -4,13 +4,21 @@
 //! the finite map's, whichever table it is, and a call that takes no memory can't fail.
 #![tactic(auto)]
 
+mod block;
+mod blocks;
 mod calls;
+mod changes;
 mod cursor;
 mod place;
 mod plain;
+mod rest;
 mod runs;
+mod seats;
+mod sorted;
 mod table;
 
+pub use block::MOST_ENTRIES;
+pub use blocks::Blocks;
 pub use calls::{TableAnswer, TableCall};
 pub use cursor::{Cursor, copies};
 pub use plain::Plain;

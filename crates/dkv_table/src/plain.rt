@@ -1,8 +1,8 @@
-// A table in one vector in key order. A search goes by halves.
+// A table in one vector in key order.
 ghost use Rattle.std.specs.Prelude.{◌≡◌, [], IsTrue};
 ghost use Rattle.dkv_base.specs.State.{is_in_key_order};
 
-use crate::place::{first_from, place};
+use crate::sorted::{look_up, range, store, take_out};
 use crate::{Cursor, Table};
 use dkv_base::{Entry, NoMemory, Run};
 use std::alloc::Global;
@@ -48,37 +48,19 @@ impl Table for Plain {
     }
 
     fn get(&self, key: &[u8]) -> Option<&Entry> {
-        match place(&self.entries, key) {
-            Ok(at) => Some(&self.entries[at]),
-            Err(_) => None,
-        }
+        look_up(&self.entries, key)
     }
 
     fn put(&mut self, entry: Entry) -> Option<Entry> {
-        match place(&self.entries, entry.key.as_slice()) {
-            Ok(at) => Some(std::mem::replace(&mut self.entries[at], entry)),
-            Err(at) => {
-                let _ = self.entries.insert(at, entry);
-                None
-            }
-        }
+        store(&mut self.entries, entry)
     }
 
     fn remove(&mut self, key: &[u8]) -> Option<Entry> {
-        match place(&self.entries, key) {
-            Ok(at) => Some(self.entries.remove(at)),
-            Err(_) => None,
-        }
+        take_out(&mut self.entries, key)
     }
 
     fn walk(&self, start: &[u8], end: &[u8], reverse: bool) -> Cursor<'_> {
-        let from = first_from(&self.entries, start);
-        let to = first_from(&self.entries, end);
-        if from < to {
-            Cursor::over(&self.entries[from..to], reverse)
-        } else {
-            Cursor::over(&[], reverse)
-        }
+        Cursor::over(range(&self.entries, start, end), reverse)
     }
 
     fn all(&self) -> Cursor<'_> {

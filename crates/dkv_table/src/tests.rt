@@ -1,4 +1,4 @@
-// A thousand keys in any order, walks, and a run of calls, over the plain table.
+// Blocks beside the plain table, walks, and a run of calls.
 use super::*;
 use dkv_base::{Bytes, Entry};
 use std::alloc::Global;
@@ -24,53 +24,95 @@ fn commit_of(entry: Option<Entry>) -> u64 {
 }
 
 // The commit of what was under the key.
-fn put(alloc: Global, table: &mut Plain, key: &[u8], commit: u64) -> Result<u64, Fail> {
+fn put<T: Table>(alloc: Global, table: &mut T, key: &[u8], commit: u64) -> Result<u64, Fail> {
     table.reserve(1)?;
     Ok(commit_of(table.put(entry(alloc, key, commit)?)))
 }
 
-// A table of a thousand keys, put in the order of a step.
-fn filled(alloc: Global, step: u32) -> Result<Plain, Fail> {
-    let mut table = Plain::new(alloc);
-    for i in 0..1000u32 {
-        let number = i.wrapping_mul(step) % 1000;
-        put(alloc, &mut table, &number.to_be_bytes(), number as u64)?;
-    }
-    Ok(table)
-}
-
-fn remove(table: &mut Plain, number: u32) {
-    let _ = table.remove(&number.to_be_bytes());
-}
-
-// Whether the table has the entries of so many numbers, from the first on and so far apart, and no others.
-fn holds(table: &Plain, first: u64, apart: u64, count: u64) -> bool {
-    let mut cursor = table.all();
-    for i in 0..count {
-        match cursor.next() {
-            Some(entry) if entry.commit == i.wrapping_mul(apart).wrapping_add(first) => {}
+// Whether two walks give the same entries, at most so many.
+fn agree(mut one: Cursor<'_>, mut other: Cursor<'_>, most: u32) -> bool {
+    for _ in 0..most {
+        match (one.next(), other.next()) {
+            (Some(a), Some(b)) => {
+                if a.commit != b.commit || a.key.as_slice() != b.key.as_slice() {
+                    return false;
+                }
+            }
+            (None, None) => return true,
             _ => return false,
         }
     }
-    cursor.next().is_none()
+    false
+}
+
+// Whether the tables have the same entries, up and down and from some key to some other.
+fn are_alike(plain: &Plain, blocks: &Blocks) -> bool {
+    let (first, last) = (&200u32.to_be_bytes(), &700u32.to_be_bytes());
+    plain.len() == blocks.len()
+        && agree(plain.all(), blocks.all(), 1001)
+        && agree(
+            plain.walk(b"", b"z", true),
+            blocks.walk(b"", b"z", true),
+            1001,
+        )
+        && agree(
+            plain.walk(first, last, false),
+            blocks.walk(first, last, false),
+            1001,
+        )
+}
+
+// Puts the keys from 0 on, or down to 0.
+fn puts_agree(
+    alloc: Global,
+    plain: &mut Plain,
+    blocks: &mut Blocks,
+    falling: bool,
+) -> Result<bool, Fail> {
+    for i in 0..1000u32 {
+        let number = if falling { 999 - i } else { i };
+        let was = put(alloc, plain, &number.to_be_bytes(), i as u64)?;
+        if put(alloc, blocks, &number.to_be_bytes(), i as u64)? != was {
+            return Ok(false);
+        }
+        if i % 100 == 99 && !are_alike(plain, blocks) {
+            return Ok(false);
+        }
+    }
+    Ok(true)
+}
+
+// Takes the keys out from the middle outwards.
+fn removals_agree(plain: &mut Plain, blocks: &mut Blocks) -> bool {
+    for i in 0..1000u32 {
+        let number = if i % 2 == 0 { 500 + i / 2 } else { 499 - i / 2 };
+        let was = commit_of(plain.remove(&number.to_be_bytes()));
+        if commit_of(blocks.remove(&number.to_be_bytes())) != was {
+            return false;
+        }
+        if i % 100 == 99 && !are_alike(plain, blocks) {
+            return false;
+        }
+    }
+    true
 }
 
 #[test]
-fn a_thousand_keys_come_and_go_in_any_order(rt: HostRuntime) -> Result<(), Fail> {
-    for step in [1, 999, 379] {
-        let mut table = filled(rt.alloc(), step)?;
-        assert!(rt; holds(&table, 0, 1, 1000));
-        for i in 0..500 {
-            remove(&mut table, 2 * i);
-        }
-        assert!(rt; holds(&table, 1, 2, 500));
+fn a_thousand_keys_come_and_go_as_in_the_plain_table(rt: HostRuntime) -> Result<(), Fail> {
+    for falling in [false, true] {
+        let mut plain = Plain::new(rt.alloc());
+        let mut blocks = Blocks::new(rt.alloc());
+        assert!(rt; puts_agree(rt.alloc(), &mut plain, &mut blocks, falling)?);
+        assert!(rt; puts_agree(rt.alloc(), &mut plain, &mut blocks, !falling)?);
+        assert!(rt; removals_agree(&mut plain, &mut blocks));
+        assert_eq!(rt; blocks.len(), 0);
     }
     Ok(())
 }
 
 // A table of five keys, of which some begin others.
-fn five(alloc: Global) -> Result<Plain, Fail> {
-    let mut table = Plain::new(alloc);
+fn five(alloc: Global) -> Result<Blocks, Fail> {
+    let mut table = Blocks::new(alloc);
     for (key, commit) in [("ab", 1), ("c", 2), ("a", 3), ("ba", 4), ("b", 5)] {
         put(alloc, &mut table, key.as_bytes(), commit)?;
     }
@@ -80,7 +122,7 @@ fn five(alloc: Global) -> Result<Plain, Fail> {
 // The keys of a walk, each with a space behind it.
 fn keys(
     alloc: Global,
-    table: &Plain,
+    table: &Blocks,
     start: &str,
     end: &str,
     reverse: bool,
@@ -117,7 +159,7 @@ fn a_walk_gives_the_keys_of_its_range(rt: HostRuntime) -> Result<(), Fail> {
     Ok(())
 }
 
-fn found(table: &Plain, key: &str) -> u64 {
+fn found(table: &Blocks, key: &str) -> u64 {
     match table.get(key.as_bytes()) {
         Some(entry) => entry.commit,
         None => 0,
@@ -166,7 +208,7 @@ fn each_call_of_a_run_is_answered(rt: HostRuntime) -> Result<(), Fail> {
     ] {
         calls.push(call(rt.alloc(), word, commit)?)?;
     }
-    let mut table = Plain::new(rt.alloc());
+    let mut table = Blocks::new(rt.alloc());
     let answers = run_calls(rt.alloc(), &mut table, calls)?;
     assert_eq!(rt; answers.len(), 7);
     assert!(rt; matches!(answers.as_slice().last(), Some(TableAnswer::Counted(1))));
