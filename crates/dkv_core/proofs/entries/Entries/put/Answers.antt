@@ -1,5 +1,6 @@
 use Rattle.std.proofs.Common.{List, Option, sym, ap, ◌∙◌}
 use Rattle.dkv_base.specs.declared.types.Entry.{Entry}
+use Rattle.dkv_table.specs.Blocks.{joined}
 use Rattle.dkv_expiry.specs.declared.ending.Ending.{Ending}
 use Rattle.dkv_expiry.specs.Endings.{has}
 use Rattle.dkv_core.specs.Entries.{forgot, noted_of, is_end}
@@ -8,7 +9,7 @@ use Rattle.dkv_core.proofs.entries.Entries.put.Goals as goal
 
 pub invariant_of-self : goal.invariant_of-self
 invariant_of-self c q =
-    let es : List Entry = c.self.inside.table.entries.items in
+    let es : List Entry = joined c.self.inside.table.blocks.items in
     let ps : List Ending = c.self.inside.expiry.pairs in
     let e = c.new.inside.entry in
     let left : List Ending = c.forget.new.expiry.pairs in
@@ -19,7 +20,7 @@ invariant_of-self c q =
 
 pub invariant_of-self-in_default : goal.invariant_of-self-in_default
 invariant_of-self-in_default c q =
-    let es : List Entry = c.self.inside.table.entries.items in
+    let es : List Entry = joined c.self.inside.table.blocks.items in
     let ps : List Ending = c.self.inside.expiry.pairs in
     let e = c.new.inside.entry in
     let left : List Ending = c.forget.new.expiry.pairs in
