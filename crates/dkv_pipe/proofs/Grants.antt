@@ -10,7 +10,10 @@ use Rattle.dkv_base.specs.declared.types.Call.TheVariants as call
 use Rattle.dkv_base.specs.declared.codes.Limit.{Limit}
 use Rattle.dkv_base.specs.declared.types.Message.{Message}
 use Rattle.dkv_base.specs.declared.types.ReadRange.{ReadRange}
-use Rattle.dkv_base.specs.Limits.{write_limit}
+use Rattle.dkv_base.specs.Limits.{read_limit, write_limit, write_limit_at}
+use Rattle.dkv_base.specs.declared.types.AtomicWrite.{AtomicWrite}
+use Rattle.dkv_base.specs.declared.types.Profile.{Profile}
+use Rattle.dkv_base.specs.declared.types.Profile.TheVariants.{Narrow}
 use Rattle.dkv_base.specs.State.{seen}
 use Rattle.dkv_base.specs.Moments.{capped_moment}
 use Rattle.dkv_base.specs.Messages.{is_out}
@@ -21,12 +24,12 @@ use Rattle.dkv_wire.specs.FieldLists.{fields}
 use Rattle.dkv_msgs.specs.declared.types.SnapshotRead.{SnapshotRead}
 use Rattle.dkv_msgs.specs.Messages.{snapshot_read}
 use Rattle.dkv_msgs.specs.Places.{bad_snapshot_read}
-use Rattle.dkv_msgs.specs.Readings.{unless_bad, reads_snapshot_read}
+use Rattle.dkv_msgs.specs.Readings.{unless_bad, reads_snapshot_read, reads_atomic_write}
 use Rattle.dkv_core.specs.Cores.{Database, Change, SameContent}
 use Rattle.dkv_core.specs.Decisions.{Goes, OfWrite, may_ask}
 use Rattle.dkv_core.specs.Runs.{StandsFor, IsAnswered}
 use Rattle.dkv_core.specs.Takes.{IsFirst, IsNone, IsOutToo, IsRaised}
-use Rattle.dkv_core.proofs.Replying.{Made, SameAt, same_answers, write_limited, write_fails, write_not_u64, write_goes, settle_none, settle_made, take_leased, take_nothing}
+use Rattle.dkv_core.proofs.Replying.{Made, SameAt, same_answers, read_limited, write_limited, write_fails, write_not_u64, write_goes, settle_none, settle_made, take_leased, take_nothing}
 use Rattle.dkv_pipe.specs.Wishes.{asks, readings, wish_of_read}
 use Rattle.dkv_pipe.specs.ReplyFrames.{bytes_of_reply, answer_bytes, limit_bytes}
 use Rattle.dkv_pipe.specs.Grants.{Grants, ask_of, made_answer}
@@ -114,3 +117,23 @@ pub takes_ranges : {E : Type 0} (c d : Database) (body : List ℕ) (request : Sn
 takes_ranges c d body request ranges at result is same grants =
     let reading : readings.read_of body ≡ Ok ranges = ranges_are (bad_snapshot_read 0 body) (snapshot_read (fields 0 body)) request is ∙ ap (λ (rs : List ReadRange). Ok rs) (sym same) in
     subst (λ (r : Result (List ReadRange) ℕ). IfOk result (λ out. (who : ℕ) → Grants c (wish_of_read ask.Read r) who at out d)) (sym reading) grants
+
+-- a request that was refused by its counts; its body reads as it
+pub refused : {M : Type 0} (f : M → Ask) (reading : Result M ℕ) (m : M) (c : Database) (who at : ℕ) (passed : Limit) (out : List ℕ) → reading ≡ Ok m
+    → IsAnswered c who (max (capped_moment at) c.greatest) (f m) (answer.Limit passed) c → out ≡ limit_bytes passed → Grants c (wish_of_read f reading) who at out c
+refused {M} f reading m c who at passed out is answers told =
+    subst (λ (r : Result M ℕ). Grants c (wish_of_read f r) who at out c) (sym is) (granted c c who at (max (capped_moment at) c.greatest) (f m) (answer.Limit passed) out refl answers told)
+
+-- a read of too many ranges
+pub read_refused : (c : Database) (body : List ℕ) (at : ℕ) (passed : Limit) (out : List ℕ) → (m : SnapshotRead) × (reads_snapshot_read body ≡ Ok m) × ((p : Profile) → read_limit m.ranges ≡ Some passed) → out ≡ limit_bytes passed
+    → (who : ℕ) → Grants c (wish_of_read ask.Read (readings.read_of body)) who at out c
+read_refused c body at passed out (m, is, limit) told who =
+    refused ask.Read (readings.read_of body) m.ranges c who at passed out (ranges_are (bad_snapshot_read 0 body) (snapshot_read (fields 0 body)) m is)
+    (read_limited c who (max (capped_moment at) c.greatest) m.ranges passed (limit Narrow)) told
+
+-- a write of too many checks or changes
+pub write_refused : (c : Database) (body : List ℕ) (who at : ℕ) (passed : Limit) (out : List ℕ) → (w : AtomicWrite) × (reads_atomic_write body ≡ Ok w) × ((p : Profile) → write_limit_at p w ≡ Some passed) → out ≡ limit_bytes passed
+    → Grants c (wish_of_read ask.Write (readings.write_of body)) who at out c
+write_refused c body who at passed out (w, is, limit) told =
+    refused ask.Write (readings.write_of body) w c who at passed out is
+    (write_limited c c who (max (capped_moment at) c.greatest) w passed (limit Narrow) (record { state = refl; out = refl; greatest = refl })) told

@@ -1,7 +1,11 @@
 // The reply to each frame, and what it changes in the core.
-ghost use Rattle.std.specs.Prelude.{ℕ, ◌≡◌, ◌+◌, ◌-◌, ◌^◌, ◌<◌, ◌≤◌, false, length, IfOk, IsErrOf, IsTrue, OnErr};
+ghost use Rattle.std.specs.Prelude.{ℕ, ◌≡◌, ◌+◌, ◌-◌, ◌^◌, ◌<◌, ◌≤◌, false, None, length, IfOk, IsErrOf, IsTrue, OnErr};
 ghost use Rattle.dkv_base.specs.declared.types.Ask.TheVariants.{Read, Write, Take};
-ghost use Rattle.dkv_core.specs.Cores.{SameContent};
+ghost use Rattle.dkv_base.specs.Limits.{read_limit};
+ghost use Rattle.dkv_base.specs.Replies.{read_reply};
+ghost use Rattle.dkv_msgs.specs.Outputs.{read_output};
+ghost use Rattle.dkv_msgs.specs.Spellings.{spell_snapshot_read_output};
+ghost use Rattle.dkv_core.specs.Cores.{IsEffective, SameContent};
 ghost use Rattle.dkv_core.specs.Decisions.{may_ask};
 ghost use Rattle.dkv_pipe.specs.Frames.{is_body_length};
 ghost use Rattle.dkv_pipe.specs.Wishes.{asks, readings, wish_of_read};
@@ -16,7 +20,9 @@ use crate::reply_status::ReplyStatus;
 use dkv_atomic::read_limits;
 use dkv_base::{Bytes, Call, NoMemory, ReadRange};
 use dkv_core::{Core, Decided, NextDue};
-use dkv_msgs::{ReadError, fails_reply, read_atomic_write, read_reply, read_snapshot_read};
+use dkv_msgs::{
+    RequestError, fails_reply, read_reply, request_atomic_write, request_snapshot_read,
+};
 use std::alloc::Global;
 use thiserror::Error;
 
@@ -41,6 +47,17 @@ impl From<NoMemory> for Unanswered {
     }
 }
 
+// The entries of these ranges at an effective moment, spelled as they stand in the core.
+fn found_reply(core: &Core, alloc: Global, ranges: &[ReadRange], at: u64) -> Result<Bytes, NoMemory>
+    requires unlimited { read_limit ranges.now ≡ None }
+    requires effective { IsEffective core.now at }
+    ensures { IfOk result (λ body.
+        body ≡ spell_snapshot_read_output (read_output (read_reply core.now.state at ranges.now))) }
+{
+    let found = core.find(alloc, ranges, at)?;
+    read_reply(alloc, found.as_slice())
+}
+
 // The reply to a read of these ranges.
 fn read_ranges(
     core: &mut Core,
@@ -57,8 +74,7 @@ fn read_ranges(
         return limited(alloc, passed);
     }
     let effective = core.moment(moment);
-    let found = core.read(alloc, ranges, effective)?;
-    let body = read_reply(alloc, found)?;
+    let body = found_reply(core, alloc, ranges, effective)?;
     let reply = reply_frame(alloc, ReplyStatus::Done, body.as_slice())?;
     core.raise(effective);
     Ok(reply)
@@ -71,10 +87,11 @@ fn answer_read(core: &mut Core, alloc: Global, moment: u64, body: &[u8]) -> Resu
     ensures state { core.new.state ≡ core.old.state }
     ensures same { OnErr result (SameContent core.old core.new) }
 {
-    match read_snapshot_read(alloc, body) {
+    match request_snapshot_read(alloc, body) {
         Ok(request) => read_ranges(core, alloc, moment, request.ranges.as_slice()),
-        Err(ReadError::Malformed { at }) => malformed(alloc, at),
-        Err(ReadError::NoMemory) => Err(NoMemory),
+        Err(RequestError::Malformed { at }) => malformed(alloc, at),
+        Err(RequestError::Limit(passed)) => limited(alloc, passed),
+        Err(RequestError::NoMemory) => Err(NoMemory),
     }
 }
 
@@ -156,10 +173,11 @@ fn answer_write(
     ensures next { core.new.state.number ≤ core.old.state.number + 1 }
     ensures same { OnErr result (SameContent core.old core.new) }
 {
-    match read_atomic_write(alloc, body) {
+    match request_atomic_write(alloc, body) {
         Ok(request) => answer_call(core, alloc, who, moment, &Call::Write(request)),
-        Err(ReadError::Malformed { at }) => malformed(alloc, at),
-        Err(ReadError::NoMemory) => Err(NoMemory),
+        Err(RequestError::Malformed { at }) => malformed(alloc, at),
+        Err(RequestError::Limit(passed)) => limited(alloc, passed),
+        Err(RequestError::NoMemory) => Err(NoMemory),
     }
 }
 
