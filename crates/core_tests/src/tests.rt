@@ -1,3 +1,4 @@
+//! The core compared with the plain list program, and its calls beside `run`.
 mod asking;
 mod calls;
 mod drawn;

@@ -143,7 +143,8 @@ fn number(value: &[u8], limit: usize) -> usize
 fn sized(head: &[u8], headers: &[HeaderSpan], first: &[u8], limit: usize) -> Body
     requires within { All (IsHeaderWithin (length head.now)) headers.now }
     requires limit { limit ≤ 16777216 }
-    ensures { let lengths = values (codes "content-length") (map (header_bytes head.now) headers.now) in
+    ensures { let lengths = values (codes "content-length")
+        (map (header_bytes head.now) headers.now) in
         slice_get lengths 0 ≡ Some first.now → FramedAs limit (framing_by [] lengths) result }
 {
     if !is_number(first) {

@@ -41,7 +41,8 @@ impl State {
     // A chunk line is whole.
     fn whole_size(&mut self, size: u64)
         requires rooms { HasRoom self.old }
-        requires within { IsRequestWithin self.old.head.bytes self.old.headers.items self.old.spans }
+        requires within { IsRequestWithin self.old.head.bytes
+            self.old.headers.items self.old.spans }
         requires most { length self.old.body.bytes ≤ body_limit self.old.profile }
         ensures rooms { HasRoom self.new }
         ensures profile { self.new.profile ≡ self.old.profile }

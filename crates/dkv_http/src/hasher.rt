@@ -14,7 +14,8 @@ struct Keys {
 
 impl RandomSource for Keys {
     fn fill_bytes(&self, buf: &mut [u8]) -> io::Result<()>
-        ensures { EachIndex buf.new (λ k. slice_index buf.new k ≡ slice_index self.now.bytes (k % 16)) }
+        ensures { EachIndex buf.new
+            (λ k. slice_index buf.new k ≡ slice_index self.now.bytes (k % 16)) }
     {
         for (i, byte) in buf.iter_mut().enumerate() {
             *byte = self.bytes[i % 16];
