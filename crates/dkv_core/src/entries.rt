@@ -44,6 +44,7 @@ impl Entries {
     }
 
     /// Holds these entries. Takes memory for them and for their index, as each is put.
+    #[tactic(auto, using(crate::proofs::PutInOrder::put_in_order))]
     pub(crate) fn of(alloc: Global, entries: Run<Entry>) -> Result<Entries, NoMemory>
         requires { IsTrue (is_in_key_order entries) }
         ensures { IfOk result (λ e. e.entries ≡ entries) }

@@ -14,7 +14,7 @@ returns-in_default-clause-none c = λ no.
     let es : List Entry = joined c.self.inside.table.blocks.items in
     let due = ap (λ (o : Option _). option_copied o) (sym c.in_default.is) ∙ c.due_upto.ensures.due in
     ap (λ (s : Stored). visible c.args.at s.entries) (sym c.self.view_is)
-    ∙ none_due c.args.at es c.self.inside.expiry.pairs c.self.inside.table.ordered c.self.invariant due
+    ∙ none_due c.args.at es c.self.inside.expiry.pairs c.self.inside.table.kept.blocks.in_order c.self.invariant due
     ∙ ap (λ (s : Stored). s.entries) c.self.view_is
 
 pub invariant_of-self : goal.invariant_of-self
@@ -32,7 +32,7 @@ returns-clause-entries c =
     let key = c.as_slice.result.now in
     let due = due_ended c.args.at key es c.self.inside.expiry.pairs c.self.invariant (ap Some c.as_slice.ensures ∙ c.in-Some.ensures.due) in
     ap (λ (fs : List Entry). visible c.args.at fs) c.remove-was.ensures.content
-    ∙ ended_gone c.args.at key es due.0 c.self.inside.table.ordered due.1 due.2
+    ∙ ended_gone c.args.at key es due.0 c.self.inside.table.kept.blocks.in_order due.1 due.2
     ∙ ap (λ (s : Stored). visible c.args.at s.entries) c.self.view_is
 
 pub returns-clause-one : goal.returns-clause-one
