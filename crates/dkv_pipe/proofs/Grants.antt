@@ -21,9 +21,12 @@ use Rattle.dkv_base.specs.Writes.{failing, mutated_all}
 use Rattle.dkv_base.specs.Replies.{Reply, said}
 use Rattle.dkv_base.specs.Steps.{effective, reply_to, answered}
 use Rattle.dkv_wire.specs.FieldLists.{fields}
+use Rattle.dkv_msgs.specs.declared.requests.RequestError.{RequestError}
+use Rattle.dkv_msgs.specs.declared.requests.RequestError.TheVariants as error
 use Rattle.dkv_msgs.specs.declared.types.SnapshotRead.{SnapshotRead}
 use Rattle.dkv_msgs.specs.Messages.{snapshot_read}
 use Rattle.dkv_msgs.specs.Places.{bad_snapshot_read}
+use Rattle.dkv_msgs.specs.Requests.{IsRequest}
 use Rattle.dkv_msgs.specs.Readings.{unless_bad, reads_snapshot_read, reads_atomic_write}
 use Rattle.dkv_core.specs.Cores.{Database, Change, SameContent}
 use Rattle.dkv_core.specs.Decisions.{Goes, OfWrite, may_ask}
@@ -130,6 +133,13 @@ pub read_refused : (c : Database) (body : List ℕ) (at : ℕ) (passed : Limit) 
 read_refused c body at passed out (m, is, limit) told who =
     refused ask.Read (readings.read_of body) m.ranges c who at passed out (ranges_are (bad_snapshot_read 0 body) (snapshot_read (fields 0 body)) m is)
     (read_limited c who (max (capped_moment at) c.greatest) m.ranges passed (limit Narrow)) told
+
+-- and what answers it, where memory suffices
+pub read_refusal : {E : Type 0} (c : Database) (body : List ℕ) (at : ℕ) (e : RequestError) (passed : Limit) (result : Result (List ℕ) E) → e ≡ error.Limit passed → IsRequest (λ _ (m : SnapshotRead). read_limit m.ranges) (reads_snapshot_read body) (Err e)
+    → IfOk result (λ out. out ≡ limit_bytes passed) → IfOk result (λ out. (who : ℕ) → Grants c (wish_of_read ask.Read (readings.read_of body)) who at out c)
+read_refusal c body at e passed (Ok out) same is told =
+    read_refused c body at passed out (subst (λ (x : RequestError). IsRequest (λ _ (m : SnapshotRead). read_limit m.ranges) (reads_snapshot_read body) (Err x)) same is) told
+read_refusal c body at e passed (Err f) same is told = told
 
 -- a write of too many checks or changes
 pub write_refused : (c : Database) (body : List ℕ) (who at : ℕ) (passed : Limit) (out : List ℕ) → (w : AtomicWrite) × (reads_atomic_write body ≡ Ok w) × ((p : Profile) → write_limit_at p w ≡ Some passed) → out ≡ limit_bytes passed
