@@ -34,7 +34,7 @@ memory() {
     python3 - "$1" <<'PYTHON'
 import resource, subprocess, sys
 with open(sys.argv[1], "rb") as source:
-    subprocess.run(["crates/dkv_app/out/dkv_app", "pipe"], stdin=source, stdout=subprocess.DEVNULL, check=True)
+    subprocess.run(["crates/denokv/out/denokv", "pipe"], stdin=source, stdout=subprocess.DEVNULL, check=True)
 print(resource.getrusage(resource.RUSAGE_CHILDREN).ru_maxrss * 1024)
 PYTHON
 }
