@@ -29,14 +29,10 @@ print(f"{best:.4f}")
 PYTHON
 }
 
-# memory FILE: the most bytes that a run over the frames of the file had in memory
+# memory FILE: the most bytes that a run over the frames of the file had in memory, or 0 where GNU time is missing
 memory() {
-    python3 - "$1" <<'PYTHON'
-import resource, subprocess, sys
-with open(sys.argv[1], "rb") as source:
-    subprocess.run(["crates/denokv/out/denokv", "pipe"], stdin=source, stdout=subprocess.DEVNULL, check=True)
-print(resource.getrusage(resource.RUSAGE_CHILDREN).ru_maxrss * 1024)
-PYTHON
+    [ -x /usr/bin/time ] || { echo 0; return; }
+    echo $(($(/usr/bin/time -f %M crates/denokv/out/denokv pipe <"$1" 2>&1 >/dev/null) * 1024))
 }
 
 # writes SETS VALUE FRAMES
