@@ -133,4 +133,5 @@ def main():
             out.write(frame(WRITE, mutation(SUM, at, one, LE64)))
 
 
-main()
+if __name__ == "__main__":
+    main()
