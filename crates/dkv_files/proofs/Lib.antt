@@ -1,0 +1,5 @@
+pub mod Appends
+mod Clears
+pub mod Resting
+pub mod Used
+pub mod Written

@@ -1,0 +1,111 @@
+-- A store keeps what its type says, after a commit and after a fault.
+use Rattle.std.proofs.Common.{◌≡◌, ℕ, ◌≤◌, true, List, [], ◌∷◌, ◌++◌, Option, Some, refl, sym, ap, ◌∙◌, subst, arith, IsTrue}
+use Rattle.std.specs.Prelude.{is_some}
+use Rattle.std.specs.Option.{option_map_or}
+use Rattle.std.proofs.lemmas.List.{append-nil}
+use Rattle.dkv_base.specs.declared.types.Call.{Call}
+use Rattle.dkv_base.specs.declared.types.Call.TheVariants as call
+use Rattle.dkv_base.specs.declared.types.Commit.{Commit}
+use Rattle.dkv_base.specs.declared.types.Item.{Item}
+use Rattle.dkv_base.specs.declared.types.Item.TheVariants as item
+use Rattle.dkv_base.specs.State.{State}
+use Rattle.dkv_base.specs.Messages.{moment_of, is_out, next}
+use Rattle.dkv_base.specs.After.{after, is_legal_in}
+use Rattle.dkv_base.specs.Trails.{commits, greatest}
+use Rattle.dkv_base.proofs.Told.{commits-push}
+use Rattle.dkv_core.specs.Cores.{Database, Change, applied}
+use Rattle.dkv_core.specs.Decisions.{commit_of, Goes}
+use Rattle.dkv_core.specs.Settling.{out_after}
+use Rattle.dkv_core.specs.declared.prepared.Settled.{Settled}
+use Rattle.dkv_core.specs.Takes.{IsTaken}
+use Rattle.dkv_core.specs.declared.takes.Taken.TheVariants as taken
+use Rattle.dkv_base.specs.declared.types.Message.{Message}
+use Rattle.dkv_io.specs.Causes.{Rose}
+use Rattle.dkv_journal.specs.declared.journal.Journal.{Journal}
+use Rattle.dkv_files.specs.Crashes.{Identity, and_then}
+use Rattle.dkv_store.specs.Held.{Hold, Guarded}
+use Rattle.dkv_store.specs.Stores.{Keeps, is_doubt}
+use Rattle.dkv_store.proofs.Trailing.{count_push, leased_doubt, leased_made, legal_doubt, legal_made, state_made, unstopped_on, moments_on, leased_took, legal_took, next_same}
+
+made_at : (who t : ℕ) (a : Call) → moment_of (commit_of who t a) ≡ t
+made_at who t (call.Write w) = refl
+made_at who t (call.Ack id) = refl
+made_at who t (call.Fail id) = refl
+
+module _ {D : Type 0} (sees : D → Option (List ℕ)) (images : D → List ℕ → Type 0) (faults : D → ℕ) (j j_end : Journal)
+    (base : State) (core core_end : Database) (trail trail_end : List Item) (doubt doubt_end : Option Commit) (me : Identity) (a a_end b b_end a_first b_first : D)
+    (kept : Keeps sees images faults j (record { base = base; core = core; trail = trail; doubt = doubt; who = me; a = a; b = b; a_first = a_first; b_first = b_first }))
+    (who t : ℕ) (asked : Call) (p : Change) (goes : Goes core who t asked p)
+    (named : j_end.in_doubt ≡ is_some doubt_end) (other : b_end ≡ b) where
+  abbrev Kept : List Item → Type 0
+  Kept items = Keeps sees images faults j_end (record { base = base; core = core_end; trail = items; doubt = doubt_end; who = me; a = a_end; b = b_end; a_first = a_first; b_first = b_first })
+
+  late : greatest base trail ≤ t
+  late = omega (arith, kept.moments, goes.ready.moment.late, goes.moment)
+
+  -- after a fault a doubt joins the trail
+  pub kept_doubt : core_end.state ≡ core.state → core_end.out ≡ core.out → core_end.greatest ≡ t → trail_end ≡ trail ++ item.Doubt who t ∷ [] → Rose (faults a) (faults a_end)
+      → ((fa : List ℕ) → sees a_end ≡ Some fa → Hold (images a_end) (Guarded (sees b_end) (images b_end)) j_end doubt_end core.state me) → Kept trail_end
+  kept_doubt state out_is greatest_is trail_is rose stands =
+      let x = item.Doubt who t in
+      let counted = count_push is_doubt trail x in
+      let same_b = ap faults other in
+      subst Kept (sym trail_is) (record {
+        sound = kept.sound;
+        state = state ∙ kept.state ∙ ap (after base) (sym (commits-push trail x ∙ append-nil (commits trail)));
+        legal = legal_doubt base trail kept.legal who t late;
+        leased = λ k. ap (is_out k) out_is ∙ leased_doubt base trail core.out kept.leased who t k;
+        unstopped = unstopped_on trail x refl kept.unstopped;
+        moments = moments_on base trail x core_end.greatest (omega (arith, greatest_is));
+        doubts = λ low_a low_b. let before = kept.doubts (omega (arith, low_a, rose)) (omega (arith, low_b, same_b)) in omega (arith, before, counted, low_a, rose, same_b);
+        named = named;
+        stands = λ fa told. subst (λ (s : State). Hold (images a_end) (Guarded (sees b_end) (images b_end)) j_end doubt_end s me) (sym state) (stands fa told);
+      })
+
+  -- after a commit it is in the state and in the trail
+  pub kept_made : core_end.state ≡ applied p core.state → core_end.out ≡ out_after p.settled core.out → core_end.greatest ≡ p.moment → trail_end ≡ trail ++ item.Made (commit_of who t asked) ∷ [] → faults a ≤ faults a_end
+      → ((fa : List ℕ) → sees a_end ≡ Some fa → Hold (images a_end) (Guarded (sees b_end) (images b_end)) j_end doubt_end (and_then core.state (commit_of who t asked)) me) → Kept trail_end
+  kept_made state out_is greatest_is trail_is later stands =
+      let x = item.Made (commit_of who t asked) in
+      let counted = count_push is_doubt trail x in
+      let same_b = ap faults other in
+      let at = made_at who t asked in
+      let free = subst (λ (s : State). IsTrue (is_legal_in s (commit_of who t asked))) kept.state goes.legal in
+      let held = subst (λ (o : Option Settled). IsTrue (option_map_or (λ s. is_out s.id core.out) o true)) goes.settles goes.ready.settles in
+      subst Kept (sym trail_is) (record {
+        sound = kept.sound;
+        state = state ∙ goes.makes ∙ ap (λ (s : State). after s (commit_of who t asked ∷ [])) kept.state ∙ sym (state_made base trail kept.legal kept.sound who t asked free late);
+        legal = legal_made base trail kept.legal kept.sound who t asked free late kept.unstopped core.out kept.leased held;
+        leased = λ k. ap (is_out k) (out_is ∙ ap (λ (o : Option Settled). out_after o core.out) goes.settles) ∙ leased_made base trail core.out kept.leased asked who t k;
+        unstopped = unstopped_on trail x refl kept.unstopped;
+        moments = moments_on base trail x core_end.greatest (omega (arith, greatest_is, goes.moment, at));
+        doubts = λ low_a low_b. let before = kept.doubts (omega (arith, low_a, later)) (omega (arith, low_b, same_b)) in omega (arith, before, counted, later, same_b);
+        named = named;
+        stands = λ fa told. subst (λ (s : State). Hold (images a_end) (Guarded (sees b_end) (images b_end)) j_end doubt_end s me) (sym (state ∙ goes.makes)) (stands fa told);
+      })
+
+-- after a take its item stands in the trail
+module _ {D : Type 0} (sees : D → Option (List ℕ)) (images : D → List ℕ → Type 0) (faults : D → ℕ) (j : Journal)
+    (base : State) (core core_end : Database) (trail trail_end : List Item) (doubt : Option Commit) (me : Identity) (a b a_first b_first : D)
+    (kept : Keeps sees images faults j (record { base = base; core = core; trail = trail; doubt = doubt; who = me; a = a; b = b; a_first = a_first; b_first = b_first })) where
+  abbrev Taking : List Item → Type 0
+  Taking items = Keeps sees images faults j (record { base = base; core = core_end; trail = items; doubt = doubt; who = me; a = a; b = b; a_first = a_first; b_first = b_first })
+
+  pub kept_took : (who t : ℕ) (m : Message) → core.greatest ≤ t → IsTaken core t (taken.Leased m) core_end → trail_end ≡ trail ++ item.Took who t m.id ∷ [] → Taking trail_end
+  kept_took who t m late is trail_is =
+      let x = item.Took who t m.id in
+      let state = is.2.state in
+      let at = is.2.greatest in
+      let counted = count_push is_doubt trail x in
+      let due = sym (next_same base trail core.out kept.leased (after base (commits trail)) t) ∙ subst (λ (s : State). next s core.out t ≡ Some m) kept.state is.0.first in
+      subst Taking (sym trail_is) (record {
+        sound = kept.sound;
+        state = state ∙ kept.state ∙ ap (after base) (sym (commits-push trail x ∙ append-nil (commits trail)));
+        legal = legal_took base trail kept.legal who t m (omega (arith, kept.moments, late)) kept.unstopped due;
+        leased = λ k. is.1 k ∙ leased_took base trail core.out kept.leased who t m.id k;
+        unstopped = unstopped_on trail x refl kept.unstopped;
+        moments = moments_on base trail x core_end.greatest (omega (arith, at));
+        doubts = λ low_a low_b. let before = kept.doubts low_a low_b in omega (arith, before, counted);
+        named = kept.named;
+        stands = λ fa told. subst (λ (s : State). Hold (images a) (Guarded (sees b) (images b)) j doubt s me) (sym state) (kept.stands fa told);
+      })

@@ -1,0 +1,7 @@
+pub mod Holding
+pub mod Keeping
+pub mod Leases
+pub mod Moving
+pub mod Results
+pub mod Standing
+pub mod Trailing

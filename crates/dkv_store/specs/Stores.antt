@@ -1,0 +1,196 @@
+-- What contracts see of a store, and what its type keeps.
+--     Contents      the base and the items of the term, the core, the commit in doubt, the identity and the two disks, now and when the term began
+--     Keeps ..      what every store keeps
+--     IsDone, IsRefused      the answers of a commit, and what they leave
+use Rattle.std.specs.Prelude.{ℕ, ◌≡◌, ◌≢◌, ◌⊎◌, ◌+◌, ◌-◌, ◌^◌, ◌<◌, ◌≤◌, Bool, true, false, IsTrue, List, [], ◌∷◌, ◌++◌, max, count_by, Option, Some, None, is_some, Ok, Err, ◌||◌}
+use Rattle.dkv_base.specs.declared.types.AtomicWrite.{AtomicWrite}
+use Rattle.dkv_base.specs.declared.types.Call.{Call}
+use Rattle.dkv_base.specs.declared.types.Commit.{Commit}
+use Rattle.dkv_base.specs.declared.types.Item.{Item}
+use Rattle.dkv_base.specs.declared.types.Item.TheVariants as item
+use Rattle.dkv_base.specs.declared.types.MsgId.{MsgId}
+use Rattle.dkv_base.specs.declared.types.Profile.TheVariants.{Narrow}
+use Rattle.dkv_base.specs.Profiles.{body_most}
+use Rattle.dkv_base.specs.Spelling.{record_length}
+use Rattle.dkv_base.specs.Limits.{write_limit}
+use Rattle.dkv_base.specs.State.{State, seen, empty_state}
+use Rattle.dkv_base.specs.Moments.{capped_moment}
+use Rattle.dkv_base.specs.Sound.{IsSound}
+use Rattle.dkv_base.specs.After.{after, is_legal_in}
+use Rattle.dkv_base.specs.Trails.{commits, out, greatest, first_stop, is_legal_trail}
+use Rattle.dkv_base.specs.Messages.{is_out}
+use Rattle.dkv_base.specs.Writes.{failing, mutated_all}
+use Rattle.dkv_core.specs.Cores.{Database}
+use Rattle.dkv_core.specs.Decisions.{commit_of, OfWrite}
+use Rattle.dkv_core.specs.Runs.{no_limit}
+use Rattle.dkv_journal.specs.declared.journal.Journal.{Journal}
+use Rattle.dkv_core.specs.Takes.{IsTaken}
+use Rattle.dkv_core.specs.declared.takes.Taken.{Taken}
+use Rattle.dkv_core.specs.declared.takes.Taken.TheVariants as taken
+use Rattle.dkv_io.specs.Disks.{Moves, PairImages, Only}
+use Rattle.dkv_msgs.specs.Readings.{reads_atomic_write}
+use Rattle.dkv_files.specs.Files.{is_open}
+use Rattle.dkv_files.specs.Recovered as Recovered
+use Rattle.dkv_files.specs.Recovered.{Found, first_opening}
+use Rattle.dkv_store.specs.declared.answers.OpenRefusal.{OpenRefusal}
+use Rattle.dkv_store.specs.declared.answers.OpenRefusal.TheVariants as opening
+use Rattle.dkv_store.specs.declared.answers.CreateRefusal.{CreateRefusal}
+use Rattle.dkv_store.specs.declared.answers.CreateRefusal.TheVariants as creating
+use Rattle.dkv_files.specs.Crashes.{Identity, identity, and_then}
+use Rattle.dkv_store.specs.Held.{Hold, Guarded}
+use Rattle.dkv_files.specs.Crashes.{read}
+use Rattle.dkv_store.specs.declared.answers.Done.{Done}
+use Rattle.dkv_store.specs.declared.answers.Done.TheVariants as done
+use Rattle.dkv_store.specs.declared.answers.Refusal.{Refusal}
+use Rattle.dkv_store.specs.declared.answers.Refusal.TheVariants as refusal
+
+pub record Contents (D : Type 0) : Type 0 where
+  pub base : State
+  pub core : Database
+  pub trail : List Item
+  pub doubt : Option Commit
+  pub who : Identity
+  pub a : D
+  pub b : D
+  pub a_first : D
+  pub b_first : D
+
+-- ---- what a store keeps
+
+-- a commit that may or may not have reached the disk
+abbrev pub is_doubt : Item → Bool
+is_doubt (item.Made c) = false
+is_doubt (item.Took who at id) = false
+is_doubt (item.Doubt who at) = true
+is_doubt (item.Stop who at last) = false
+
+-- the items number at most the rise of the two counts, until one stands at the last value of a u64
+abbrev pub IsWithinRise : ℕ → ℕ → ℕ → ℕ → ℕ → Type 0
+IsWithinRise n a_first a b_first b = a < 2 ^ 64 - 1 → b < 2 ^ 64 - 1 → n + a_first + b_first ≤ a + b
+
+pub record Keeps {D : Type 0} (sees : D → Option (List ℕ)) (images : D → List ℕ → Type 0) (faults : D → ℕ) (journal : Journal) (s : Contents D) : Type 0 where
+  pub sound : IsSound s.base
+  pub state : s.core.state ≡ after s.base (commits s.trail)
+  pub legal : IsTrue (is_legal_trail s.base no_limit s.trail)
+  pub leased : (id : MsgId) → is_out id s.core.out ≡ is_out id (out s.trail)
+  pub unstopped : first_stop s.trail ≡ None
+  pub moments : greatest s.base s.trail ≤ s.core.greatest
+  pub doubts : IsWithinRise (count_by is_doubt s.trail) (faults s.a_first) (faults s.a) (faults s.b_first) (faults s.b)
+  pub named : journal.in_doubt ≡ is_some s.doubt
+  pub stands : (fa : List ℕ) → sees s.a ≡ Some fa → Hold (images s.a) (Guarded (sees s.b) (images s.b)) journal s.doubt s.core.state s.who
+
+-- ---- the answers of a commit
+
+-- the effective moment of a call
+abbrev pub effective_at : {D : Type 0} → Contents D → ℕ → ℕ
+effective_at s at = max (capped_moment at) s.core.greatest
+
+-- the same but for the greatest moment and the room
+pub record IsRaisedTo {D : Type 0} (t : ℕ) (old new : Contents D) : Type 0 where
+  pub base : new.base ≡ old.base
+  pub state : new.core.state ≡ old.core.state
+  pub out : new.core.out ≡ old.core.out
+  pub greatest : new.core.greatest ≡ t
+  pub trail : new.trail ≡ old.trail
+  pub who : new.who ≡ old.who
+
+-- the state and the trail have the commit
+pub record IsMade {D : Type 0} (t : ℕ) (c : Commit) (n : ℕ) (old new : Contents D) : Type 0 where
+  pub number : n ≡ old.core.state.number + 1
+  pub legal : IsTrue (is_legal_in old.core.state c)
+  pub base : new.base ≡ old.base
+  pub state : new.core.state ≡ and_then old.core.state c
+  pub greatest : new.core.greatest ≡ t
+  pub trail : new.trail ≡ old.trail ++ item.Made c ∷ []
+  pub sure : new.doubt ≡ None
+  pub who : new.who ≡ old.who
+
+-- the content stays, but for a doubt in the trail
+pub record IsDoubtful {D : Type 0} (who t : ℕ) (old new : Contents D) : Type 0 where
+  pub base : new.base ≡ old.base
+  pub state : new.core.state ≡ old.core.state
+  pub out : new.core.out ≡ old.core.out
+  pub greatest : new.core.greatest ≡ t
+  pub trail : new.trail ≡ old.trail ++ item.Doubt who t ∷ []
+  pub identity : new.who ≡ old.who
+
+-- a write passes no limit and finds no stop
+abbrev pub IsFree : {D : Type 0} → Contents D → AtomicWrite → Type 0
+IsFree s w = (write_limit w ≡ None) × (first_stop s.trail ≡ None)
+
+abbrev pub IsDone : {D : Type 0} → Contents D → ℕ → ℕ → Call → Done → Contents D → Type 0
+IsDone old who t call (done.Committed n) new = IsMade t (commit_of who t call) n old new
+IsDone old who t call (done.Fails places) new =
+    OfWrite call (λ w. IsFree old w × (failing w (seen old.core.state t) ≡ places) × (places ≢ [])) × IsRaisedTo t old new
+IsDone old who t call (done.NotU64 index) new =
+    OfWrite call (λ w. IsFree old w × (failing w (seen old.core.state t) ≡ []) × (mutated_all w (old.core.state.number + 1) t (seen old.core.state t) ≡ Err index)) × IsRaisedTo t old new
+IsDone old who t call (done.Limit passed) new = OfWrite call (λ w. write_limit w ≡ Some passed) × IsRaisedTo old.core.greatest old new
+
+abbrev pub IsRefused : {D : Type 0} → Contents D → ℕ → ℕ → Call → Refusal → Contents D → Type 0
+IsRefused old who t call refusal.DiskFault new = IsTrue (is_legal_in old.core.state (commit_of who t call)) × IsDoubtful who t old new
+IsRefused old who t call (refusal.Stopped place) new = OfWrite call (λ w. (write_limit w ≡ None) × (first_stop old.trail ≡ Some place)) × IsRaisedTo t old new
+IsRefused old who t call refusal.NoMemory new = IsRaisedTo old.core.greatest old new ⊎ IsRaisedTo t old new
+
+-- a call that goes has a record that may be written
+abbrev pub IsShort : {D : Type 0} → Contents D → ℕ → ℕ → Call → Type 0
+IsShort s who t call = IsTrue (is_legal_in s.core.state (commit_of who t call)) → record_length (commit_of who t call) ≤ body_most Narrow
+
+-- ---- the other calls
+
+-- a store of the new database over these disks, with an identity of zeros
+pub record IsFresh {D : Type 0} (a b : D) (s : Contents D) : Type 0 where
+  pub base : s.base ≡ empty_state
+  pub state : s.core.state ≡ empty_state
+  pub trail : s.trail ≡ []
+  pub doubt : s.doubt ≡ None
+  pub a_is : s.a ≡ a
+  pub b_is : s.b ≡ b
+
+-- a message was taken, and its item joined the trail; or none is due
+abbrev pub IsTake : {D : Type 0} → Contents D → ℕ → ℕ → Taken → Contents D → Type 0
+IsTake old who t (taken.Leased m) new = IsTaken old.core t (taken.Leased m) new.core × (new.trail ≡ old.trail ++ item.Took who t m.id ∷ [])
+IsTake old who t (taken.Nothing moment) new = IsTaken old.core t (taken.Nothing moment) new.core × (new.trail ≡ old.trail)
+
+-- both disks, and what they are of, stay
+pub record SameDisks {D : Type 0} (old new : Contents D) : Type 0 where
+  pub a : new.a ≡ old.a
+  pub b : new.b ≡ old.b
+  pub base : new.base ≡ old.base
+  pub doubt : new.doubt ≡ old.doubt
+  pub who : new.who ≡ old.who
+
+-- ---- opening and creating
+
+-- the store begins a term on what the two files recover to, and they are at rest
+pub record IsOpened {D : Type 0} (images : D → List ℕ → Type 0) (fa fb : List ℕ) (s : Contents D) : Type 0 where
+  pub found : Found
+  pub recovered : read fa fb ≡ Recovered.found found
+  pub base : s.base ≡ after found.base found.commits
+  pub state : s.core.state ≡ s.base
+  pub who : s.who ≡ identity found
+  pub trail : s.trail ≡ []
+  pub out_none : s.core.out ≡ []
+  pub doubt : s.doubt ≡ None
+  pub a_only : Only fa (images s.a)
+  pub b_only : Only fb (images s.b)
+
+-- why two files are not opened; a fault and want of memory say nothing of their bytes
+abbrev pub IsUnopened : List ℕ → List ℕ → OpenRefusal → Type 0
+IsUnopened fa fb opening.DiskFault = Unit {0}
+IsUnopened fa fb opening.NoMemory = Unit {0}
+IsUnopened fa fb opening.NoDatabase = first_opening reads_atomic_write fa fb ≡ Ok Recovered.no_database
+IsUnopened fa fb (opening.Damaged file at) = first_opening reads_atomic_write fa fb ≡ Ok (Recovered.damaged file at)
+IsUnopened fa fb (opening.NotBuilt at) = first_opening reads_atomic_write fa fb ≡ Err at
+
+-- one of the two files is open
+abbrev pub IsSomeOpen : List ℕ → List ℕ → Type 0
+IsSomeOpen fa fb = IsTrue (is_open fa || is_open fb)
+
+abbrev pub IsUncreated : List ℕ → List ℕ → CreateRefusal → Type 0
+IsUncreated fa fb creating.DiskFault = Unit {0}
+IsUncreated fa fb creating.NoMemory = Unit {0}
+IsUncreated fa fb creating.Exists = IsSomeOpen fa fb
+
+-- what is in doubt after a fault: nothing, what was, or this commit
+abbrev pub IsOldOrNew : Option Commit → Commit → Option Commit → Type 0
+IsOldOrNew old c new = (new ≡ None) ⊎ (new ≡ old) ⊎ (new ≡ Some c)
