@@ -12,7 +12,7 @@ use Rattle.dkv_base.specs.State.{State}
 use Rattle.dkv_base.specs.Messages.{moment_of, is_out, next}
 use Rattle.dkv_base.specs.After.{after, is_legal_in}
 use Rattle.dkv_base.specs.Trails.{commits, greatest}
-use Rattle.dkv_base.proofs.Told.{commits-push}
+use Rattle.dkv_base.proofs.LongerTrails.{commits-push}
 use Rattle.dkv_core.specs.Cores.{Database, Change, applied}
 use Rattle.dkv_core.specs.Decisions.{commit_of, Goes}
 use Rattle.dkv_core.specs.Settling.{out_after}

@@ -1,3 +1,5 @@
 pub mod Held
 pub mod Stores
 pub mod Making
+pub mod Situations
+pub mod Terms

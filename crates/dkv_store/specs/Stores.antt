@@ -94,6 +94,10 @@ pub record IsRaisedTo {D : Type 0} (t : ℕ) (old new : Contents D) : Type 0 whe
   pub trail : new.trail ≡ old.trail
   pub who : new.who ≡ old.who
 
+-- the same but for the greatest moment, which may have risen to this one, and the room
+abbrev pub IsRaised : {D : Type 0} → ℕ → Contents D → Contents D → Type 0
+IsRaised t old new = IsRaisedTo old.core.greatest old new ⊎ IsRaisedTo t old new
+
 -- the state and the trail have the commit
 pub record IsMade {D : Type 0} (t : ℕ) (c : Commit) (n : ℕ) (old new : Contents D) : Type 0 where
   pub number : n ≡ old.core.state.number + 1
@@ -129,7 +133,7 @@ IsDone old who t call (done.Limit passed) new = OfWrite call (λ w. write_limit 
 abbrev pub IsRefused : {D : Type 0} → Contents D → ℕ → ℕ → Call → Refusal → Contents D → Type 0
 IsRefused old who t call refusal.DiskFault new = IsTrue (is_legal_in old.core.state (commit_of who t call)) × IsDoubtful who t old new
 IsRefused old who t call (refusal.Stopped place) new = OfWrite call (λ w. (write_limit w ≡ None) × (first_stop old.trail ≡ Some place)) × IsRaisedTo t old new
-IsRefused old who t call refusal.NoMemory new = IsRaisedTo old.core.greatest old new ⊎ IsRaisedTo t old new
+IsRefused old who t call refusal.NoMemory new = IsRaised t old new
 
 -- a call that goes has a record that may be written
 abbrev pub IsShort : {D : Type 0} → Contents D → ℕ → ℕ → Call → Type 0

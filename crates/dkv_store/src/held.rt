@@ -9,7 +9,7 @@ ghost use Rattle.dkv_files.specs.Crashes.{Identity, StatesMove, with_doubt, and_
 ghost use Rattle.dkv_store.specs.Held.{Hold, Guarded, MayAdd, AddMoves};
 ghost use Rattle.dkv_files.specs.Crashes.{read};
 
-use crate::pair::Pair;
+use dkv_files::Pair;
 use dkv_base::Commit;
 use dkv_io::{Disk, Failed};
 use dkv_journal::{Journal, Laid};

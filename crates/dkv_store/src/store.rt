@@ -15,7 +15,7 @@ ghost use Rattle.dkv_store.specs.declared.answers.Refusal.TheVariants as refusal
 use crate::answers::{Done, Refusal};
 use crate::held::Files;
 use crate::keep::write;
-use crate::pair::Pair;
+use dkv_files::Pair;
 use dkv_base::{Call, Commit, Entry, Item, NoMemory, ReadRange, Run};
 use dkv_core::{Core, Decided, Prepared, Taken};
 use dkv_io::Disk;
