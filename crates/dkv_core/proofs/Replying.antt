@@ -89,7 +89,7 @@ read_given c d who t ranges given free is same = λ s stands. (
 )
 
 -- the rows of a reply to a write
-abbrev rows : Option Limit → Option ℕ → List ℕ → Option ℕ → Bool → Reply → ℕ → Reply
+abbrev pub rows : Option Limit → Option ℕ → List ℕ → Option ℕ → Bool → Reply → ℕ → Reply
 rows passed stop places bad over heavy n = unwrap_or (first_some (
     option_map limited passed
     ∷ option_map stopped stop
@@ -102,7 +102,7 @@ never_over : (x limit : ℕ) → limit ≡ no_limit → nat_lt limit (min x (2 ^
 never_over x limit is = le-ltb limit (min x (2 ^ 64 - 1)) (omega (arith, is))
 
 -- those of a write, where nothing stops and no weight passes the limit
-in_rows : (s : Situation) (c : Database) (who t : ℕ) (w : AtomicWrite) → StandsFor s c
+pub in_rows : (s : Situation) (c : Database) (who t : ℕ) (w : AtomicWrite) → StandsFor s c
     → reply_to s who t (ask.Write w)
     ≡ rows (write_limit w) None (failing w (seen c.state t)) (result_err (mutated_all w (c.state.number + 1) t (seen c.state t))) false (full (weight s.trail) s.limit) (c.state.number + 1)
 in_rows s c who t w stands =
@@ -160,12 +160,12 @@ still_none i (x ∷ xs) y other none =
     ] none
 
 -- what a write that goes passes
-record Free (c : Database) (t : ℕ) (w : AtomicWrite) : Type 0 where
-  limits : write_limit w ≡ None
-  checks : failing w (seen c.state t) ≡ []
-  numbers : result_err (mutated_all w (c.state.number + 1) t (seen c.state t)) ≡ None
+pub record Free (c : Database) (t : ℕ) (w : AtomicWrite) : Type 0 where
+  pub limits : write_limit w ≡ None
+  pub checks : failing w (seen c.state t) ≡ []
+  pub numbers : result_err (mutated_all w (c.state.number + 1) t (seen c.state t)) ≡ None
 
-free : (c : Database) (who t : ℕ) (w : AtomicWrite) → is_legal_in c.state (Wrote who t w) ≡ true → Free c t w
+pub free : (c : Database) (who t : ℕ) (w : AtomicWrite) → is_legal_in c.state (Wrote who t w) ≡ true → Free c t w
 free c who t w legal =
     let may = (and_parts (nat_le c.state.moment t && nat_le t MAX_MOMENT) _ legal).1 in
     let parts = and_parts (is_none (write_limit w) && is_empty (failing w (seen c.state t))) _ may in
@@ -193,7 +193,7 @@ write_goes c d who t w p is made = λ s stands.
 
 -- ---- settlements
 
-settles_commit : (done : Bool) (who t : ℕ) (id : MsgId) → commit_of who t (settling done id) ≡ settlement done who t id
+pub settles_commit : (done : Bool) (who t : ℕ) (id : MsgId) → commit_of who t (settling done id) ≡ settlement done who t id
 settles_commit true who t id = refl
 settles_commit false who t id = refl
 
@@ -202,7 +202,7 @@ settles_out true id ids = refl
 settles_out false id ids = refl
 
 -- ids that are the same tell the same when one is taken away
-out-without : (id k : MsgId) (ids : List MsgId) → is_out k (without_id id ids) ≡ (not (same_id k id) && is_out k ids)
+pub out-without : (id k : MsgId) (ids : List MsgId) → is_out k (without_id id ids) ≡ (not (same_id k id) && is_out k ids)
 out-without id k [] = false_right (not (same_id k id))
   where
     false_right : (b : Bool) → false ≡ (b && false)

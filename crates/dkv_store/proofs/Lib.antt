@@ -5,3 +5,4 @@ pub mod Moving
 pub mod Results
 pub mod Standing
 pub mod Trailing
+pub mod Answering
