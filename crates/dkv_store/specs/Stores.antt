@@ -92,7 +92,10 @@ pub record IsRaisedTo {D : Type 0} (t : ℕ) (old new : Contents D) : Type 0 whe
   pub out : new.core.out ≡ old.core.out
   pub greatest : new.core.greatest ≡ t
   pub trail : new.trail ≡ old.trail
+  pub doubt : new.doubt ≡ old.doubt
   pub who : new.who ≡ old.who
+  pub a : new.a ≡ old.a
+  pub b : new.b ≡ old.b
 
 -- the same but for the greatest moment, which may have risen to this one, and the room
 abbrev pub IsRaised : {D : Type 0} → ℕ → Contents D → Contents D → Type 0
