@@ -122,12 +122,12 @@ CreateLeaves a_start b_start read who a b = PairImages a_start b_start a b ⊎ (
 abbrev pub state_at : State → List Commit → ℕ → State
 state_at base cs k = after base (take k cs)
 
--- in a run: images of the start, the state after some of its commits, or that and one commit that was in doubt there
+-- In a run: images of the start; the state after the first k of its commits; or that and one commit that was in doubt there. A doubt is told by k and its commit.
 abbrev pub RunLeaves : (List ℕ → Type 0) → (List ℕ → Type 0) → (List ℕ → List ℕ → Recovery) → Identity → State → List Commit → List (ℕ × Commit) → List ℕ → List ℕ → Type 0
 RunLeaves a_start b_start read who base cs doubts a b =
     PairImages a_start b_start a b
-    ⊎ ((k : ℕ) × IsState (read a b) (state_at base cs k) who)
-    ⊎ ((k : ℕ) × (c : Commit) × Contains doubts (k, c) × IsState (read a b) (and_then (state_at base cs k) c) who)
+    ⊎ ((k : ℕ) × (k ≤ length cs) × IsState (read a b) (state_at base cs k) who)
+    ⊎ ((k : ℕ) × (c : Commit) × (k ≤ length cs) × Contains doubts (k, c) × IsState (read a b) (and_then (state_at base cs k) c) who)
 
 -- each image of the pair at each moment of a call is one that its start might have left
 abbrev pub WritesNothing : {D : Type 0} → (D → List ℕ → Type 0) → (D → ℕ) → (D → ℕ → List ℕ → Type 0) → D → D → D → D → Type 0

@@ -6,3 +6,4 @@ pub mod Results
 pub mod Standing
 pub mod Trailing
 pub mod Answering
+pub mod Going
