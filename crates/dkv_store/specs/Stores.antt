@@ -79,6 +79,16 @@ pub record Keeps {D : Type 0} (sees : D → Option (List ℕ)) (images : D → L
   pub named : journal.in_doubt ≡ is_some s.doubt
   pub stands : (fa : List ℕ) → sees s.a ≡ Some fa → Hold (images s.a) (Guarded (sees s.b) (images s.b)) journal s.doubt s.core.state s.who
 
+-- what of this a caller may use: the state after a sound base and a legal trail, the ids that are out, and the doubts
+pub record Kept {D : Type 0} (faults : D → ℕ) (s : Contents D) : Type 0 where
+  pub sound : IsSound s.base
+  pub state : s.core.state ≡ after s.base (commits s.trail)
+  pub legal : IsTrue (is_legal_trail s.base no_limit s.trail)
+  pub leased : (id : MsgId) → is_out id s.core.out ≡ is_out id (out s.trail)
+  pub unstopped : first_stop s.trail ≡ None
+  pub moments : greatest s.base s.trail ≤ s.core.greatest
+  pub doubts : IsWithinRise (count_by is_doubt s.trail) (faults s.a_first) (faults s.a) (faults s.b_first) (faults s.b)
+
 -- ---- the answers of a commit
 
 -- the effective moment of a call

@@ -1,6 +1,8 @@
 -- How a store goes on within a term, and what a stop at any moment leaves of it.
 --     GoesOn seen images moment since doubts start now      from the one store to the other, with these commits left in doubt on the way
-use Rattle.std.specs.Prelude.{ℕ, ◌≡◌, ◌≤◌, List, ◌++◌, length, Some}
+--     Leads .. more old new      whatever goes on to the old store goes on to the new one, with these doubts more
+--     left_in_doubt result k c      the doubt that a commit leaves
+use Rattle.std.specs.Prelude.{ℕ, ◌≡◌, ◌≤◌, List, [], ◌∷◌, ◌++◌, length, Some, Result, Ok, Err}
 use Rattle.std.specs.List.{Contains}
 use Rattle.std.specs.declared.option.Option.{Option}
 use Rattle.dkv_base.specs.declared.types.Commit.{Commit}
@@ -8,6 +10,9 @@ use Rattle.dkv_base.specs.declared.types.Item.{Item}
 use Rattle.dkv_base.specs.Trails.{commits}
 use Rattle.dkv_io.specs.Disks.{Moves, Told, AnyBytes}
 use Rattle.dkv_files.specs.Crashes.{RunLeaves, read}
+use Rattle.dkv_store.specs.declared.answers.Done.{Done}
+use Rattle.dkv_store.specs.declared.answers.Refusal.{Refusal}
+use Rattle.dkv_store.specs.declared.answers.Refusal.TheVariants as refusal
 use Rattle.dkv_store.specs.Stores.{Contents}
 
 -- Items join the trail of the same term. At each moment each pair of images is one of the start, or recovers to the state after the
@@ -27,3 +32,15 @@ pub record GoesOn {D : Type 0} (seen : D → Option (List ℕ)) (images : D → 
   pub told_b : Told AnyBytes (seen start.b) (seen now.b)
   pub moves : (fa fb : List ℕ) → seen start.a ≡ Some fa → seen start.b ≡ Some fb
       → Moves images moment since (RunLeaves (images start.a) (images start.b) read start.who start.base (commits now.trail) doubts) start.a start.b now.a now.b
+
+-- whatever goes on to the old store goes on to the new one, with these doubts more
+abbrev pub Leads : {D : Type 0} → (D → Option (List ℕ)) → (D → List ℕ → Type 0) → (D → ℕ) → (D → ℕ → List ℕ → Type 0) → List (ℕ × Commit) → Contents D → Contents D → Type 0
+Leads {D} seen images moment since more old new =
+    (start : Contents D) (doubts : List (ℕ × Commit)) → GoesOn seen images moment since doubts start old → GoesOn seen images moment since (doubts ++ more) start new
+
+-- a fault of the disk leaves the commit in doubt, behind k commits
+abbrev pub left_in_doubt : Result Done Refusal → ℕ → Commit → List (ℕ × Commit)
+left_in_doubt (Ok d) k c = []
+left_in_doubt (Err refusal.DiskFault) k c = (k, c) ∷ []
+left_in_doubt (Err (refusal.Stopped place)) k c = []
+left_in_doubt (Err refusal.NoMemory) k c = []

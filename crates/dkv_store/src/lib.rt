@@ -5,6 +5,7 @@
 
 mod again;
 mod answers;
+mod calls;
 mod held;
 mod keep;
 mod store;

@@ -27,7 +27,7 @@ use std::snapshot::Snapshot;
 
 /// The database over two files: the core, the items of this term, and the files, which stand for the core's state at each moment.
 pub struct Store<D: Disk> {
-    core: Core,
+    pub(crate) core: Core,
     base: Snapshot<Core>,
     trail: Vec<Item>,
     id: [u8; 16],
@@ -94,7 +94,7 @@ impl<D: Disk> Store<D> {
     }
 
     /// The entries of each range at the effective moment. Takes memory for copies of them.
-    pub fn read(
+    pub(crate) fn read_kept(
         &mut self,
         alloc: Global,
         at: u64,
@@ -139,7 +139,7 @@ impl<D: Disk> Store<D> {
     }
 
     /// Takes the message that is due first. Touches no disk.
-    pub fn take(&mut self, alloc: Global, who: u32, at: u64) -> Result<Taken, NoMemory>
+    pub(crate) fn take_kept(&mut self, alloc: Global, who: u32, at: u64) -> Result<Taken, NoMemory>
         ensures taken { IfOk result (λ taken. IsTake self.old who (effective_at self.old at) taken self.new) }
         ensures disks { SameDisks self.old self.new }
     {
@@ -161,7 +161,7 @@ impl<D: Disk> Store<D> {
     /// Commits a call of the caller `who` at a moment in milliseconds since 1970. A gate in doubt is mended before anything is
     /// written. After a fault the commit is in doubt or not on the disk, and a doubt joins the trail. Takes memory for the
     /// record, all of it before the first disk call.
-    pub fn commit(&mut self, alloc: Global, who: u32, at: u64, call: Call) -> Result<Done, Refusal>
+    pub(crate) fn commit_kept(&mut self, alloc: Global, who: u32, at: u64, call: Call) -> Result<Done, Refusal>
         requires numbered { self.old.core.state.number < 2 ^ 63 - 1 }
         requires out { IsTrue (may_ask self.old.core call) }
         requires short { IsShort self.old who (effective_at self.old at) call }

@@ -7,7 +7,7 @@ use Rattle.dkv_core.specs.Takes.{IsTaken}
 use Rattle.dkv_core.specs.declared.takes.Taken.{Taken}
 use Rattle.dkv_files.specs.Crashes.{Identity}
 use Rattle.dkv_store.proofs.Keeping.{kept_took}
-use Rattle.dkv_store.proofs.store.Store.take.Goals as goal
+use Rattle.dkv_store.proofs.store.Store.take_kept.Goals as goal
 
 pub invariant_of-self-in-Leased : goal.invariant_of-self-in-Leased
 invariant_of-self-in-Leased g c =

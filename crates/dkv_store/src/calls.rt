@@ -1,0 +1,61 @@
+// The calls of a store as the one-thread database answers them.
+ghost use Rattle.std.specs.Prelude.{◌≡◌, ◌<◌, ◌-◌, ◌^◌, List, ℕ, [], length, IsTrue, IfOk, MatchResult, None, Some, Err};
+ghost use Rattle.dkv_base.specs.declared.types.Ask.TheVariants.{Read};
+ghost use Rattle.dkv_base.specs.declared.types.Answer.TheVariants.{Entries};
+ghost use Rattle.dkv_base.specs.Limits.{read_limit};
+ghost use Rattle.dkv_base.specs.Replies.{read_reply, said};
+ghost use Rattle.dkv_base.specs.Trails.{commits};
+ghost use Rattle.dkv_core.specs.Decisions.{commit_of, may_ask};
+ghost use Rattle.dkv_io.specs.Causes.{Rose};
+ghost use Rattle.dkv_io.specs.Disks.{Told, AnyBytes};
+ghost use Rattle.dkv_store.specs.Held.{CommitMoves};
+ghost use Rattle.dkv_store.specs.Situations.{AnswersCall};
+ghost use Rattle.dkv_store.specs.Stores.{IsDone, IsRefused, IsShort, IsOldOrNew, Kept, effective_at};
+ghost use Rattle.dkv_store.specs.Terms.{Leads, left_in_doubt};
+ghost use Rattle.dkv_store.specs.declared.answers.Refusal.TheVariants as refusal;
+
+use crate::answers::{Done, Refusal};
+use crate::store::Store;
+use dkv_base::Call;
+use dkv_io::Disk;
+use std::alloc::Global;
+
+impl<D: Disk> Store<D> {
+    /// What its type keeps. Takes no memory, and does nothing.
+    pub fn is_kept(&self)
+        ensures { Kept D.faults self.now }
+    {
+        let _ = &self.core;
+    }
+
+    /// Commits a call of the caller `who` at a moment in milliseconds since 1970. A gate in doubt is mended before anything is
+    /// written. After a fault the commit is in doubt or not on the disk, and a doubt joins the trail. Takes memory for the
+    /// record, all of it before the first disk call.
+    pub fn commit(&mut self, alloc: Global, who: u32, at: u64, call: Call) -> Result<Done, Refusal>
+        requires numbered { self.old.core.state.number < 2 ^ 63 - 1 }
+        requires out { IsTrue (may_ask self.old.core call) }
+        requires short { IsShort self.old who (effective_at self.old at) call }
+        // The answer is the one-thread database's, but for disk faults and want of memory.
+        ensures steps { AnswersCall self.old who at call result self.new }
+        ensures answer { MatchResult result
+            (λ d. IsDone self.old who (effective_at self.old at) call d self.new)
+            (λ r. IsRefused self.old who (effective_at self.old at) call r self.new) }
+        // Stopped at any moment, the files recover to a state of the term.
+        ensures goes { Leads D.seen D.may_leave D.moment D.left_since
+            (left_in_doubt result (length (commits self.old.trail)) (commit_of who (effective_at self.old at) call))
+            self.old self.new }
+        ensures moves { (fa fb : List ℕ) → D.seen self.old.a ≡ Some fa → D.seen self.old.b ≡ Some fb
+            → CommitMoves D.may_leave D.moment D.left_since self.old.who self.old.core.state self.old.doubt (commit_of who (effective_at self.old at) call) self.old.a self.old.b self.new.a self.new.b }
+        ensures cause { result ≡ Err refusal.DiskFault → Rose (D.faults self.old.a) (D.faults self.new.a) }
+        // In doubt is the old commit or this one, if one is.
+        ensures doubted { result ≡ Err refusal.DiskFault → IsOldOrNew self.old.doubt (commit_of who (effective_at self.old at) call) self.new.doubt }
+        ensures told { Told AnyBytes (D.seen self.old.a) (D.seen self.new.a) }
+        ensures other { self.new.b ≡ self.old.b }
+        ensures first { (self.new.a_first ≡ self.old.a_first) × (self.new.b_first ≡ self.old.b_first) }
+    {
+        self.is_kept();
+        let done = self.commit_kept(alloc, who, at, call);
+        self.is_kept();
+        done
+    }
+}
