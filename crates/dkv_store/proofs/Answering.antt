@@ -1,6 +1,6 @@
 -- What the calls of a store answer is what the definitions answer in each situation of the store.
 use Rattle.std.proofs.Common.{◌≡◌, ℕ, ◌+◌, Bool, true, false, cond, List, [], ◌∷◌, ◌++◌, Option, Some, None, Result, Ok, Err, refl, sym, ap, subst, ◌∙◌}
-use Rattle.std.specs.Prelude.{max, not, ◌&&◌, MatchResult}
+use Rattle.std.specs.Prelude.{max, not, ◌&&◌, MatchResult, IfOk, IfErr, OnErr}
 use Rattle.dkv_base.specs.declared.types.Answer.{Answer}
 use Rattle.dkv_base.specs.declared.types.Answer.TheVariants as answer
 use Rattle.dkv_base.specs.declared.types.Ask.{Ask}
@@ -28,14 +28,15 @@ use Rattle.dkv_core.specs.Decisions.{commit_of, may_ask, settled_by}
 use Rattle.dkv_core.specs.Settling.{out_after}
 use Rattle.dkv_core.specs.Runs as runs
 use Rattle.dkv_core.specs.Runs.{IsAnswered}
+use Rattle.dkv_core.specs.declared.takes.Taken.{Taken}
 use Rattle.dkv_core.specs.declared.takes.Taken.TheVariants as taken
 use Rattle.dkv_core.proofs.Replying.{SameAt, rows, in_rows, free, out-without, write_limited, write_fails, write_not_u64, read_given, take_leased, take_nothing}
 use Rattle.dkv_store.specs.declared.answers.Done.{Done}
 use Rattle.dkv_store.specs.declared.answers.Done.TheVariants as done
 use Rattle.dkv_store.specs.declared.answers.Refusal.{Refusal}
 use Rattle.dkv_store.specs.declared.answers.Refusal.TheVariants as refusal
-use Rattle.dkv_store.specs.Stores.{Contents, IsDone, IsRefused, IsMade, IsDoubtful, IsRaisedTo, IsTake, effective_at}
-use Rattle.dkv_store.specs.Situations.{StandsFor, Answers, AnswersCall, ask_of, made_answer}
+use Rattle.dkv_store.specs.Stores.{Contents, IsDone, IsRefused, IsMade, IsDoubtful, IsRaised, IsRaisedTo, IsTake, effective_at}
+use Rattle.dkv_store.specs.Situations.{StandsFor, Answers, AnswersCall, AnswersTake, ask_of, made_answer}
 use Rattle.dkv_store.proofs.Trailing.{unstopped_on, leased_made}
 
 module _ {D : Type 0} (old new : Contents D) (none : first_stop old.trail ≡ None) where
@@ -216,3 +217,12 @@ module _ {D : Type 0} (old new : Contents D) (none : first_stop old.trail ≡ No
   pub nothing_answers : (who at : ℕ) (moment : Option ℕ) → IsTake old who (effective_at old at) (taken.Nothing moment) new → Answers old who at ask.Take false (said (answer.Nothing moment)) new
   nothing_answers who at moment is =
       unmarked who at ask.Take (answer.Nothing moment) (take_nothing old.core new.core who (effective_at old at) moment is.0.0 is.0.1 is.0.2) (λ s stands. stands.trail ∙ sym is.1)
+
+  -- a take
+  pub take_answers : (who at : ℕ) (r : Result Taken Refusal) → IfOk r (λ x. IsTake old who (effective_at old at) x new) → OnErr r (IsRaised (effective_at old at) old new) → IfErr r (λ e. e ≡ refusal.NoMemory)
+      → AnswersTake old who at r new
+  take_answers who at (Ok (taken.Leased m)) is short cause = leased_answers who at m is
+  take_answers who at (Ok (taken.Nothing next)) is short cause = nothing_answers who at next is
+  take_answers who at (Err refusal.DiskFault) is short cause = absurd (cc cause)
+  take_answers who at (Err (refusal.Stopped place)) is short cause = absurd (cc cause)
+  take_answers who at (Err refusal.NoMemory) is short cause = short

@@ -1,6 +1,6 @@
 -- A store goes on by each of its calls.
 use Rattle.std.proofs.Common.{◌≡◌, ◌⊎◌, Result, Ok, Err, inl, inr, append_assoc, lit<, ℕ, zero, ◌+◌, ◌≤◌, List, [], ◌∷◌, ◌++◌, length, take, Option, Some, None, refl, sym, ap, subst, ◌∙◌, arith}
-use Rattle.std.specs.Prelude.{IsTrue, max, MatchResult}
+use Rattle.std.specs.Prelude.{IsTrue, max, MatchResult, IfOk, OnErr}
 use Rattle.std.specs.Option.{option_map_or}
 use Rattle.std.specs.List.{Contains}
 use Rattle.std.proofs.lemmas.List.{append-nil, take-append-le, length-append}
@@ -295,3 +295,46 @@ module _ {D : Type 0} (seen : D → Option (List ℕ)) (images : D → List ℕ 
       commit_leads (Err refusal.DiskFault) is doubted = doubt_leads is.1 (doubted refl)
       commit_leads (Err (refusal.Stopped place)) is doubted = raised_leads t late is.1
       commit_leads (Err refusal.NoMemory) is doubted = may_rise_leads t late is
+
+  -- a take adds the message that it gives to what is out
+  module _ (old new : Contents D) (same : SameDisks old new) where
+    took_leads : (who t : ℕ) (result : Taken) → old.core.greatest ≤ t → IsTake old who t result new → Leads seen images moment since [] old new
+    took_leads who t (taken.Leased m) late is start doubts g =
+        subst (λ (l : List (ℕ × Commit)). GoesOn seen images moment since l start new) (sym (append-nil doubts))
+        (goes_on start old new doubts g (item.Took who t m.id ∷ []) (record {
+          base = same.base;
+          who = same.who;
+          a_first = same.a_first;
+          b_first = same.b_first;
+          b = same.b;
+          later = subst (λ (k : ℕ). old.core.greatest ≤ k) (sym is.0.2.greatest) late;
+        }) is.1 refl same.doubt same.a)
+    took_leads who t (taken.Nothing next) late is start doubts g =
+        subst (λ (l : List (ℕ × Commit)). GoesOn seen images moment since l start new) (sym (append-nil doubts))
+        (goes_on start old new doubts g [] (record {
+          base = same.base;
+          who = same.who;
+          a_first = same.a_first;
+          b_first = same.b_first;
+          b = same.b;
+          later = subst (λ (k : ℕ). old.core.greatest ≤ k) (sym is.0.2.greatest) late;
+        }) (is.1 ∙ sym (append-nil old.trail)) refl same.doubt same.a)
+
+    pub take_leads : (who t : ℕ) (result : Result Taken Refusal) → old.core.greatest ≤ t → IfOk result (λ r. IsTake old who t r new) → OnErr result (IsRaised t old new) → Leads seen images moment since [] old new
+    take_leads who t (Ok r) late is short = took_leads who t r late is
+    take_leads who t (Err e) late is short = may_rise_leads old new (same.a_first, same.b_first) t late short
+
+  -- a read changes the greatest moment alone
+  pub read_leads : (old new : Contents D) (t : ℕ) → old.core.greatest ≤ t → new ≡ record old { core = record old.core { greatest = t } } → Leads seen images moment since [] old new
+  read_leads old new t late is =
+      raised_leads old new (ap (λ (c : Contents D). c.a_first) is, ap (λ (c : Contents D). c.b_first) is) t late (record {
+        base = ap (λ (c : Contents D). c.base) is;
+        state = ap (λ (c : Contents D). c.core.state) is;
+        out = ap (λ (c : Contents D). c.core.out) is;
+        greatest = ap (λ (c : Contents D). c.core.greatest) is;
+        trail = ap (λ (c : Contents D). c.trail) is;
+        doubt = ap (λ (c : Contents D). c.doubt) is;
+        who = ap (λ (c : Contents D). c.who) is;
+        a = ap (λ (c : Contents D). c.a) is;
+        b = ap (λ (c : Contents D). c.b) is;
+      })

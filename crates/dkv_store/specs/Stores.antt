@@ -175,6 +175,8 @@ pub record SameDisks {D : Type 0} (old new : Contents D) : Type 0 where
   pub base : new.base ≡ old.base
   pub doubt : new.doubt ≡ old.doubt
   pub who : new.who ≡ old.who
+  pub a_first : new.a_first ≡ old.a_first
+  pub b_first : new.b_first ≡ old.b_first
 
 -- ---- opening and creating
 

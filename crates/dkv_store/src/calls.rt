@@ -1,5 +1,5 @@
 // The calls of a store as the one-thread database answers them.
-ghost use Rattle.std.specs.Prelude.{◌≡◌, ◌<◌, ◌-◌, ◌^◌, List, ℕ, [], length, IsTrue, IfOk, MatchResult, None, Some, Err};
+ghost use Rattle.std.specs.Prelude.{◌≡◌, ◌<◌, ◌≤◌, ◌-◌, ◌^◌, List, ℕ, [], length, false, IsTrue, IfOk, MatchResult, None, Some, Err};
 ghost use Rattle.dkv_base.specs.declared.types.Ask.TheVariants.{Read};
 ghost use Rattle.dkv_base.specs.declared.types.Answer.TheVariants.{Entries};
 ghost use Rattle.dkv_base.specs.Limits.{read_limit};
@@ -7,16 +7,19 @@ ghost use Rattle.dkv_base.specs.Replies.{read_reply, said};
 ghost use Rattle.dkv_base.specs.Trails.{commits};
 ghost use Rattle.dkv_core.specs.Decisions.{commit_of, may_ask};
 ghost use Rattle.dkv_io.specs.Causes.{Rose};
+ghost use Rattle.dkv_msgs.specs.Outputs.{read_output};
+ghost use Rattle.dkv_msgs.specs.Spellings.{spell_snapshot_read_output};
 ghost use Rattle.dkv_io.specs.Disks.{Told, AnyBytes};
 ghost use Rattle.dkv_store.specs.Held.{CommitMoves};
-ghost use Rattle.dkv_store.specs.Situations.{AnswersCall};
-ghost use Rattle.dkv_store.specs.Stores.{IsDone, IsRefused, IsShort, IsOldOrNew, Kept, effective_at};
+ghost use Rattle.dkv_store.specs.Situations.{Answers, AnswersCall, AnswersTake};
+ghost use Rattle.dkv_store.specs.Stores.{IsDone, IsRefused, IsRaisedTo, IsShort, IsOldOrNew, Kept, SameDisks, effective_at};
 ghost use Rattle.dkv_store.specs.Terms.{Leads, left_in_doubt};
 ghost use Rattle.dkv_store.specs.declared.answers.Refusal.TheVariants as refusal;
 
 use crate::answers::{Done, Refusal};
 use crate::store::Store;
-use dkv_base::Call;
+use dkv_base::{Bytes, Call, NoMemory, ReadRange};
+use dkv_core::Taken;
 use dkv_io::Disk;
 use std::alloc::Global;
 
@@ -50,6 +53,7 @@ impl<D: Disk> Store<D> {
         // In doubt is the old commit or this one, if one is.
         ensures doubted { result ≡ Err refusal.DiskFault → IsOldOrNew self.old.doubt (commit_of who (effective_at self.old at) call) self.new.doubt }
         ensures told { Told AnyBytes (D.seen self.old.a) (D.seen self.new.a) }
+        ensures later { D.faults self.old.a ≤ D.faults self.new.a }
         ensures other { self.new.b ≡ self.old.b }
         ensures first { (self.new.a_first ≡ self.old.a_first) × (self.new.b_first ≡ self.old.b_first) }
     {
@@ -57,5 +61,43 @@ impl<D: Disk> Store<D> {
         let done = self.commit_kept(alloc, who, at, call);
         self.is_kept();
         done
+    }
+
+    /// Whether the call may be made: a settlement may where its message is out. Takes no memory.
+    pub fn may_ask(&self, call: &Call) -> bool
+        ensures { result ≡ may_ask self.now.core call.now }
+    {
+        self.core.may_ask(call)
+    }
+
+    /// Takes the message that is due first, and marks it as out. Touches no disk. Takes memory for a copy of it.
+    pub fn take(&mut self, alloc: Global, who: u32, at: u64) -> Result<Taken, Refusal>
+        // The answer is the one-thread database's, but for want of memory.
+        ensures steps { AnswersTake self.old who at result self.new }
+        ensures goes { Leads D.seen D.may_leave D.moment D.left_since [] self.old self.new }
+        ensures disks { SameDisks self.old self.new }
+    {
+        self.is_kept();
+        self.take_kept(alloc, who, at)
+    }
+
+    /// The body of the reply to a read of these ranges, in its canonical spelling. Copies no entry but into the reply, for
+    /// which it takes memory.
+    pub fn spell_read(
+        &mut self,
+        alloc: Global,
+        at: u64,
+        ranges: &[ReadRange],
+    ) -> Result<Bytes, NoMemory>
+        requires unlimited { read_limit ranges.now ≡ None }
+        ensures reply { IfOk result (λ body. body ≡ spell_snapshot_read_output
+            (read_output (read_reply self.old.core.state (effective_at self.old at) ranges.now))) }
+        ensures steps { (who : ℕ) → Answers self.old who at (Read ranges.now) false
+            (said (Entries (read_reply self.old.core.state (effective_at self.old at) ranges.now))) self.new }
+        ensures goes { Leads D.seen D.may_leave D.moment D.left_since [] self.old self.new }
+        ensures short { IsRaisedTo (effective_at self.old at) self.old self.new }
+    {
+        self.is_kept();
+        self.spell_kept(alloc, at, ranges)
     }
 }

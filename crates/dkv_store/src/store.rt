@@ -1,4 +1,4 @@
-ghost use Rattle.std.specs.Prelude.{◌≡◌, ◌+◌, ◌-◌, ◌^◌, ◌<◌, ◌≤◌, ℕ, List, IsTrue, MatchResult, IfOk, OnOk, OnErr, Some, None, Err};
+ghost use Rattle.std.specs.Prelude.{◌≡◌, ◌+◌, ◌-◌, ◌^◌, ◌<◌, ◌≤◌, ℕ, List, IsTrue, MatchResult, IfOk, IfErr, OnOk, OnErr, Some, None, Err};
 ghost use Rattle.dkv_base.specs.declared.types.Profile.TheVariants.{Narrow};
 ghost use Rattle.dkv_base.specs.Profiles.{body_most};
 ghost use Rattle.dkv_base.specs.Limits.{read_limit};
@@ -7,6 +7,9 @@ ghost use Rattle.dkv_base.specs.Spelling.{record_length, record_body};
 ghost use Rattle.dkv_core.specs.Decisions.{commit_of, may_ask, Goes};
 ghost use Rattle.dkv_journal.specs.Records.{first_layout, laid as laid_of};
 ghost use Rattle.dkv_msgs.specs.Readings.{reads_atomic_write};
+ghost use Rattle.dkv_msgs.specs.Outputs.{read_output};
+ghost use Rattle.dkv_msgs.specs.Spellings.{spell_snapshot_read_output};
+ghost use Rattle.dkv_core.specs.Cores.{IsEffective};
 ghost use Rattle.dkv_record.specs.Records.{commit_of as read_as};
 ghost use Rattle.dkv_io.specs.Causes.{Rose};
 ghost use Rattle.dkv_io.specs.Disks.{Told, AnyBytes};
@@ -16,7 +19,8 @@ use crate::answers::{Done, Refusal};
 use crate::held::Files;
 use crate::keep::write;
 use dkv_files::Pair;
-use dkv_base::{Call, Commit, Entry, Item, NoMemory, ReadRange, Run};
+use dkv_msgs::read_reply;
+use dkv_base::{Bytes, Call, Commit, Entry, Item, NoMemory, ReadRange, Run};
 use dkv_core::{Core, Decided, Prepared, Taken};
 use dkv_io::Disk;
 use dkv_journal::{Journal, Laid};
@@ -69,7 +73,7 @@ impl<D: Disk> Model for Store<D> {
 }
 
 impl<D: Disk> Store<D> {
-    ghost use Rattle.dkv_store.specs.Stores.{IsDone, IsRefused, IsShort, IsFresh, IsTake, IsOldOrNew, SameDisks, effective_at};
+    ghost use Rattle.dkv_store.specs.Stores.{IsDone, IsRefused, IsRaised, IsShort, IsFresh, IsTake, IsOldOrNew, SameDisks, effective_at};
     ghost use Rattle.dkv_files.specs.Crashes.{Identity, StandsOrDoubtful};
     ghost use Rattle.dkv_store.specs.Held.{CommitMoves};
     ghost use Rattle.dkv_files.specs.Crashes.{read};
@@ -109,6 +113,24 @@ impl<D: Disk> Store<D> {
         self.core.read(alloc, ranges, at)
     }
 
+    pub(crate) fn spell_kept(
+        &mut self,
+        alloc: Global,
+        at: u64,
+        ranges: &[ReadRange],
+    ) -> Result<Bytes, NoMemory>
+        requires unlimited { read_limit ranges.now ≡ None }
+        ensures reply { IfOk result (λ body. body ≡ spell_snapshot_read_output
+            (read_output (read_reply self.old.core.state (effective_at self.old at) ranges.now))) }
+        ensures content { self.new ≡ record self.old {
+            core = record self.old.core { greatest = effective_at self.old at };
+        } }
+    {
+        let at = self.core.moment(at);
+        self.core.raise(at);
+        found_reply(&self.core, alloc, at, ranges)
+    }
+
     /// A store of the new database with an identity of zeros, over disks that tell nothing. It goes on behind the empty image of
     /// file a, and makes no disk call.
     pub fn fresh(alloc: Global, pair: Pair<D>) -> Result<Store<D>, (Pair<D>, NoMemory)>
@@ -139,13 +161,15 @@ impl<D: Disk> Store<D> {
     }
 
     /// Takes the message that is due first. Touches no disk.
-    pub(crate) fn take_kept(&mut self, alloc: Global, who: u32, at: u64) -> Result<Taken, NoMemory>
+    pub(crate) fn take_kept(&mut self, alloc: Global, who: u32, at: u64) -> Result<Taken, Refusal>
         ensures taken { IfOk result (λ taken. IsTake self.old who (effective_at self.old at) taken self.new) }
         ensures disks { SameDisks self.old self.new }
+        ensures short { OnErr result (IsRaised (effective_at self.old at) self.old self.new) }
+        ensures cause { IfErr result (λ e. e ≡ refusal.NoMemory) }
     {
         let at = self.core.moment(at);
         if self.trail.reserve(1).is_err() {
-            return Err(NoMemory);
+            return Err(Refusal::NoMemory);
         }
         let taken = self.core.take(alloc, at)?;
         if let Taken::Leased(message) = &taken {
@@ -176,6 +200,7 @@ impl<D: Disk> Store<D> {
         // In doubt is the old commit or this one, if one is.
         ensures doubted { result ≡ Err refusal.DiskFault → IsOldOrNew self.old.doubt (commit_of who (effective_at self.old at) call) self.new.doubt }
         ensures told { Told AnyBytes (D.seen self.old.a) (D.seen self.new.a) }
+        ensures later { D.faults self.old.a ≤ D.faults self.new.a }
         ensures other { self.new.b ≡ self.old.b }
         ensures first { (self.new.a_first ≡ self.old.a_first) × (self.new.b_first ≡ self.old.b_first) }
     {
@@ -215,6 +240,7 @@ impl<D: Disk> Store<D> {
         ensures cause { result ≡ Err refusal.DiskFault → Rose (D.faults self.old.a) (D.faults self.new.a) }
         ensures doubted { result ≡ Err refusal.DiskFault → IsOldOrNew self.old.doubt (commit_of who at call) self.new.doubt }
         ensures told { Told AnyBytes (D.seen self.old.a) (D.seen self.new.a) }
+        ensures later { D.faults self.old.a ≤ D.faults self.new.a }
         ensures other { self.new.b ≡ self.old.b }
         ensures first { (self.new.a_first ≡ self.old.a_first) × (self.new.b_first ≡ self.old.b_first) }
     {
@@ -237,6 +263,17 @@ impl<D: Disk> Store<D> {
         self.trail.push_reserved(Item::Made(commit));
         Ok(Done::Committed { n })
     }
+}
+
+// The entries of these ranges, spelled as they stand in the core.
+fn found_reply(core: &Core, alloc: Global, at: u64, ranges: &[ReadRange]) -> Result<Bytes, NoMemory>
+    requires unlimited { read_limit ranges.now ≡ None }
+    requires effective { IsEffective core.now at }
+    ensures { IfOk result (λ body.
+        body ≡ spell_snapshot_read_output (read_output (read_reply core.now.state at ranges.now))) }
+{
+    let found = core.find(alloc, ranges, at)?;
+    read_reply(alloc, found.as_slice())
 }
 
 // The commit that a call asks for.
