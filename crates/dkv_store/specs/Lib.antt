@@ -3,3 +3,4 @@ pub mod Stores
 pub mod Making
 pub mod Situations
 pub mod Terms
+pub mod Trails

@@ -2,7 +2,7 @@
 --     Contents      the base and the items of the term, the core, the commit in doubt, the identity and the two disks, now and when the term began
 --     Keeps ..      what every store keeps
 --     IsDone, IsRefused      the answers of a commit, and what they leave
-use Rattle.std.specs.Prelude.{ℕ, ◌≡◌, ◌≢◌, ◌⊎◌, ◌+◌, ◌-◌, ◌^◌, ◌<◌, ◌≤◌, Bool, true, false, IsTrue, List, [], ◌∷◌, ◌++◌, max, count_by, Option, Some, None, is_some, Ok, Err, ◌||◌}
+use Rattle.std.specs.Prelude.{ℕ, replicate, ◌≡◌, ◌≢◌, ◌⊎◌, ◌+◌, ◌-◌, ◌^◌, ◌<◌, ◌≤◌, Bool, true, false, IsTrue, List, [], ◌∷◌, ◌++◌, max, count_by, Option, Some, None, is_some, Ok, Err, ◌||◌}
 use Rattle.dkv_base.specs.declared.types.AtomicWrite.{AtomicWrite}
 use Rattle.dkv_base.specs.declared.types.Call.{Call}
 use Rattle.dkv_base.specs.declared.types.Commit.{Commit}
@@ -27,7 +27,7 @@ use Rattle.dkv_journal.specs.declared.journal.Journal.{Journal}
 use Rattle.dkv_core.specs.Takes.{IsTaken}
 use Rattle.dkv_core.specs.declared.takes.Taken.{Taken}
 use Rattle.dkv_core.specs.declared.takes.Taken.TheVariants as taken
-use Rattle.dkv_io.specs.Disks.{Moves, PairImages, Only}
+use Rattle.dkv_io.specs.Disks.{Only}
 use Rattle.dkv_msgs.specs.Readings.{reads_atomic_write}
 use Rattle.dkv_files.specs.Files.{is_open}
 use Rattle.dkv_files.specs.Recovered as Recovered
@@ -154,14 +154,32 @@ IsShort s who t call = IsTrue (is_legal_in s.core.state (commit_of who t call)) 
 
 -- ---- the other calls
 
+-- a term begins on this core and these disks: there is no item, and nothing is in doubt
+pub record Begins {D : Type 0} (c : Database) (me : Identity) (x y : D) (s : Contents D) : Type 0 where
+  pub base : s.base ≡ c.state
+  pub core : s.core ≡ c
+  pub trail : s.trail ≡ []
+  pub doubt : s.doubt ≡ None
+  pub who : s.who ≡ me
+  pub a_is : s.a ≡ x
+  pub b_is : s.b ≡ y
+  pub a_first : s.a_first ≡ x
+  pub b_first : s.b_first ≡ y
+
 -- a store of the new database over these disks, with an identity of zeros
 pub record IsFresh {D : Type 0} (a b : D) (s : Contents D) : Type 0 where
   pub base : s.base ≡ empty_state
   pub state : s.core.state ≡ empty_state
+  pub out : s.core.out ≡ []
+  pub greatest : s.core.greatest ≡ 0
   pub trail : s.trail ≡ []
   pub doubt : s.doubt ≡ None
+  pub id : s.who.id ≡ replicate 16 0
+  pub secret : s.who.secret ≡ replicate 32 0
   pub a_is : s.a ≡ a
   pub b_is : s.b ≡ b
+  pub a_first : s.a_first ≡ a
+  pub b_first : s.b_first ≡ b
 
 -- a message was taken, and its item joined the trail; or none is due
 abbrev pub IsTake : {D : Type 0} → Contents D → ℕ → ℕ → Taken → Contents D → Type 0

@@ -18,7 +18,7 @@ ghost use Rattle.dkv_store.specs.declared.answers.Refusal.TheVariants as refusal
 
 use crate::answers::{Done, Refusal};
 use crate::store::Store;
-use dkv_base::{Bytes, Call, NoMemory, ReadRange};
+use dkv_base::{Bytes, Call, Entry, NoMemory, ReadRange, Run};
 use dkv_core::Taken;
 use dkv_io::Disk;
 use std::alloc::Global;
@@ -63,13 +63,6 @@ impl<D: Disk> Store<D> {
         done
     }
 
-    /// Whether the call may be made: a settlement may where its message is out. Takes no memory.
-    pub fn may_ask(&self, call: &Call) -> bool
-        ensures { result ≡ may_ask self.now.core call.now }
-    {
-        self.core.may_ask(call)
-    }
-
     /// Takes the message that is due first, and marks it as out. Touches no disk. Takes memory for a copy of it.
     pub fn take(&mut self, alloc: Global, who: u32, at: u64) -> Result<Taken, Refusal>
         // The answer is the one-thread database's, but for want of memory.
@@ -79,6 +72,26 @@ impl<D: Disk> Store<D> {
     {
         self.is_kept();
         self.take_kept(alloc, who, at)
+    }
+
+    /// The entries of each range at the effective moment. Takes memory for copies of them.
+    pub fn read(
+        &mut self,
+        alloc: Global,
+        at: u64,
+        ranges: &[ReadRange],
+    ) -> Result<Run<Run<Entry>>, NoMemory>
+        requires unlimited { read_limit ranges.now ≡ None }
+        ensures reply { IfOk result (λ answer.
+            answer ≡ read_reply self.old.core.state (effective_at self.old at) ranges.now) }
+        ensures steps { (who : ℕ) → Answers self.old who at (Read ranges.now) false
+            (said (Entries (read_reply self.old.core.state (effective_at self.old at) ranges.now)))
+            self.new }
+        ensures goes { Leads D.seen D.may_leave D.moment D.left_since [] self.old self.new }
+        ensures short { IsRaisedTo (effective_at self.old at) self.old self.new }
+    {
+        self.is_kept();
+        self.read_kept(alloc, at, ranges)
     }
 
     /// The body of the reply to a read of these ranges, in its canonical spelling. Copies no entry but into the reply, for

@@ -6,12 +6,21 @@
 mod again;
 mod answers;
 mod calls;
+mod commits;
 mod held;
 mod keep;
+mod reads;
+mod recall;
 mod store;
+mod takes;
+mod tells;
+mod trail;
 
 pub use again::remake;
 pub use answers::{Done, OpenRefusal, Refusal};
 pub use held::{Files, add, mend};
 pub use keep::write;
+pub use recall::Recall;
 pub use store::Store;
+pub use tells::{Counts, Identity};
+pub use trail::MAX_TRAIL_BYTES;
