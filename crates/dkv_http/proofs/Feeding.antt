@@ -12,7 +12,8 @@ use Rattle.dkv_heads.specs.Chunks.{empty, cut}
 use Rattle.dkv_heads.specs.Requests.{body_limit, IsRest, IsRefused, IsReceived, received}
 use Rattle.dkv_http.specs.Feeds.{Feeds}
 use Rattle.dkv_http.specs.Holds.{Holds, Fits, FitsPhase, Waits, Takes, IsHead}
-use Rattle.dkv_http.proofs.Holding.{head_open, open_cut, sized_cut, line_cut, data_cut, end_cut, trailers_cut}
+use Rattle.dkv_http.proofs.Headless.{head_open, open_cut}
+use Rattle.dkv_http.proofs.Holding.{sized_cut, line_cut, data_cut, end_cut, trailers_cut}
 use Rattle.dkv_http.proofs.Stepping.{In, as_phase}
 
 abbrev Stands_cut : Profile → List ℕ → Type 0

@@ -1,5 +1,7 @@
+mod Headless
 mod Holding
 mod Stepping
+mod Pieces
 mod Feeding
 mod Taking
 mod Going

@@ -38,7 +38,8 @@ use Rattle.dkv_heads.proofs.Opens.{front_more}
 use Rattle.dkv_heads.proofs.ChunkLines.{size_goes, size_open}
 use Rattle.dkv_heads.proofs.Sections.{fields_push}
 use Rattle.dkv_heads.proofs.Ends.{line_ends, head_ends, EndOf, section_ends}
-use Rattle.dkv_http.proofs.Holding.{refused_behind, is_head, unclear_bad, too_large, is_received, head_open, waits_holds, end_more, end_bad, chunk_whole, sized_whole, chunked_more, size_waits, line_never, trailers_wait, trailers_bad, trailers_over, trailers_whole}
+use Rattle.dkv_http.proofs.Headless.{refused_behind, head_open, waits_holds}
+use Rattle.dkv_http.proofs.Holding.{is_head, unclear_bad, too_large, is_received, end_more, end_bad, chunk_whole, sized_whole, chunked_more, size_waits, line_never, trailers_wait, trailers_bad, trailers_over, trailers_whole}
 
 abbrev pub In : Phase → State → List ℕ → Type 0
 In q s held = HoldsIn q s.profile s.head.bytes s.body.bytes s.line.bytes s.headers.items s.spans s.close held
@@ -284,22 +285,3 @@ some_head head front b e = omega (arith, ap length e, length-append front (b ∷
 
 pub seam_back : {X : Type 0} (n : ℕ) (xs ys : List X) → n ≡ length xs → take n (xs ++ ys) ≡ xs
 seam_back n xs ys e = ap (λ k. take k (xs ++ ys)) e ∙ take-append_seam xs ys
-
--- ---- a piece, part by part
-
-pub joined : (bytes : List ℕ) (t r : ℕ) → t ≤ length bytes → r ≤ length (take (length bytes - t) (drop t bytes)) → take t bytes ++ take r (take (length bytes - t) (drop t bytes)) ≡ take (t + r) bytes
-joined bytes t r low most =
-    ap (λ l. take t bytes ++ take r l) (take_all (length bytes - t) (drop t bytes) (omega (arith, length-drop t bytes))) ∙ sym (take-add t r bytes)
-
-pub onward : (s u t : State) (bytes : List ℕ) (n r : ℕ) → n ≤ length bytes → r ≤ length (take (length bytes - n) (drop n bytes))
-    → ((held : List ℕ) → Holds s held → Holds u (held ++ take n bytes)) → ((held : List ℕ) → Holds u held → Holds t (held ++ take r (take (length bytes - n) (drop n bytes))))
-    → (held : List ℕ) → Holds s held → Holds t (held ++ take (n + r) bytes)
-onward s u t bytes n r low most first second held x =
-    subst (Holds t) (append_assoc held (take n bytes) (take r (take (length bytes - n) (drop n bytes))) ∙ ap (λ l. held ++ l) (joined bytes n r low most)) (second (held ++ take n bytes) (first held x))
-
-pub over_fits : (s : State) → IsOver s.phase → Fits s → ⊥
-over_fits s (inl e) x = fits_as phase.Last s e x
-over_fits s (inr e) x = fits_as phase.Over s e x
-
-pub inside : (bytes : List ℕ) (t r : ℕ) → t ≤ length bytes → r ≤ length (take (length bytes - t) (drop t bytes)) → t + r ≤ length bytes
-inside bytes t r low most = omega (arith, low, most, length-take (length bytes - t) (drop t bytes), length-drop t bytes)

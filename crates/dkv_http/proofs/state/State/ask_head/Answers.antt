@@ -3,7 +3,7 @@ use Rattle.dkv_http.specs.declared.phases.HeadAt.TheVariants as head_at
 use Rattle.httparse.specs.Spans.{IsRequestAt}
 use Rattle.dkv_heads.specs.Scans.{IsNever, IsOpen}
 use Rattle.dkv_http.specs.Holds.{Holds, HoldsIn, waiting}
-use Rattle.dkv_http.proofs.Holding.{never_refused, waits_holds}
+use Rattle.dkv_http.proofs.Headless.{never_refused, waits_holds}
 use Rattle.dkv_http.proofs.Stepping.{seam_back, head_len, some_head}
 use Rattle.dkv_http.proofs.state.State.ask_head.Goals as goal
 use Rattle.dkv_http.proofs.state.State.ask_head.Goals.{else-byte-eq10-via-then-byte-eq10+then-len-lt-MAX_HEAD_BYTES+else-ends_first_line, else-byte-eq10-via-then-byte-eq10+else-len-lt-MAX_HEAD_BYTES, else-byte-eq10-via-else-byte-eq10}

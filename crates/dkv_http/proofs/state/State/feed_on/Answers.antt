@@ -1,5 +1,5 @@
 use Rattle.std.proofs.Common.{◌∙◌}
-use Rattle.dkv_http.proofs.Stepping.{inside, onward, over_fits}
+use Rattle.dkv_http.proofs.Pieces.{inside, onward, over_fits}
 use Rattle.dkv_http.proofs.state.State.feed_on.Goals as goal
 
 pub returns-in-Whole-clause-takes : goal.returns-in-Whole-clause-takes
