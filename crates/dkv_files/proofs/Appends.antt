@@ -1,143 +1,29 @@
 -- An append leaves, at each moment, a file with the commits before it or with it too.
-use Rattle.std.proofs.Common.{◌≡◌, refl, sym, ◌∙◌, ap, subst, ℕ, zero, suc, ◌+◌, ◌-◌, ◌^◌, ◌<◌, ◌≤◌, Bool, true, false, not, ◌&&◌, ◌==◌, nat_le, nat_lt, List, [], ◌∷◌, ◌++◌, length, take, drop, Option, Some, None, Ok, Err, Result, arith, IsTrue, length-drop, append_assoc, take-append-drop}
-use Rattle.std.specs.Prelude.{bytes_eq, slice_get, slice_range, if◌then◌else◌}
-use Rattle.std.specs.Option.{option_map_or, option_and_then, option_or}
-use Rattle.std.specs.Int.{w32, w64, from_le_bytes}
-use Rattle.std.proofs.lemmas.Bool.{le-leb, lt-ltb, and_parts}
-use Rattle.std.proofs.lemmas.List.{take-take, drop-drop, append-nil}
+use Rattle.std.proofs.Common.{◌≡◌, refl, sym, ◌∙◌, ap, subst, ℕ, zero, suc, ◌+◌, ◌-◌, ◌<◌, ◌≤◌, Bool, true, false, not, ◌==◌, List, [], ◌∷◌, ◌++◌, length, take, drop, Option, Some, None, Ok, Err, Result, arith, IsTrue, length-drop, append_assoc, take-append-drop}
+use Rattle.std.specs.Prelude.{slice_range, if◌then◌else◌}
+use Rattle.std.specs.Option.{option_map_or, option_and_then}
+use Rattle.std.proofs.lemmas.Bool.{and_parts}
+use Rattle.std.proofs.lemmas.List.{drop-drop, append-nil}
 use Rattle.dkv_base.specs.declared.types.Commit.{Commit}
 use Rattle.dkv_base.specs.declared.types.Entry.{Entry}
 use Rattle.dkv_base.specs.declared.types.Message.{Message}
-use Rattle.dkv_base.specs.Limits.{first_some}
 use Rattle.dkv_base.specs.Spelling.{record_body, record_length}
 use Rattle.dkv_base.specs.State.{State}
-use Rattle.dkv_base.specs.declared.moments.TheConstants.{MAX_MOMENT}
 use Rattle.dkv_base.specs.After.{after, is_legal_at, is_legal_from_at, is_legal_in_at}
-use Rattle.dkv_base.specs.Profiles.{Known, profile_at, body_most, is_known_format, is_known_profile}
+use Rattle.dkv_base.specs.Profiles.{Known, body_most}
 use Rattle.dkv_base.specs.declared.types.Layout.{Layout}
 use Rattle.dkv_base.specs.declared.types.Profile.{Profile}
-use Rattle.dkv_journal.specs.Records.{Scan, End, at_closed, at_damaged, ends, with_body, is_record, body_behind, scanned_by, shows_open, is_closed_at, is_open_at, has_digests, records, record_size, laid, scanned, scanned_at}
+use Rattle.dkv_journal.specs.Records.{Scan, End, at_closed, at_damaged, ends, with_body, is_record, body_behind, scanned_by, is_closed_at, records, record_size, laid, scanned, scanned_at}
 use Rattle.dkv_journal.specs.declared.gates.TheConstants.{OPEN_GATE, CLOSED_GATE}
 use Rattle.dkv_journal.specs.Crashes.{HasRecord, StaysShut}
 use Rattle.dkv_image.specs.Image.{image_of}
-use Rattle.dkv_files.specs.Files.{mark, number_in, format_of, profile_of, generation_of, id_of, secret_of, image_length, number_of, moment_in, layout_of, bounds_of, image_end, first_gate, front_digest, is_open, unless, number_fault, head_fault}
+use Rattle.dkv_files.specs.Files.{generation_of, id_of, secret_of, layout_of, bounds_of, image_end, first_gate}
 use Rattle.dkv_files.specs.Recovered.{Stands, Found, Recovery, found, no_database, damaged, replayed, settled, commits_in, next_commit, if_legal, base_of, from_records, from_image, has_its_digest, from_file, last_gate, Rests}
 use Rattle.dkv_record.specs.Records.{WriteOf, commit_of}
 use Rattle.dkv_journal.specs.Laws.{scans_on}
 use Rattle.dkv_journal.proofs.Prefix.{goes, scan_goes_on}
 use Rattle.dkv_journal.proofs.Scans.{scans, size}
-
--- ---- two files with one front
-
-part_of_take : (i j q : ℕ) (a : List ℕ) → i + j ≤ q → take j (drop i (take q a)) ≡ take j (drop i a)
-part_of_take zero j q a le = take-take j q a (omega (arith, le))
-part_of_take (suc i) j zero a le = absurd (omega (arith, le))
-part_of_take (suc i) j (suc q) [] le = refl
-part_of_take (suc i) j (suc q) (x ∷ a) le = part_of_take i j q a (omega (arith, le))
-
-part_same : (i j q : ℕ) (a b : List ℕ) → take q a ≡ take q b → i + j ≤ q → take j (drop i a) ≡ take j (drop i b)
-part_same i j q a b agree le = sym (part_of_take i j q a le) ∙ ap (λ (x : List ℕ). take j (drop i x)) agree ∙ part_of_take i j q b le
-
-byte_of_front : (n p : ℕ) (c : List ℕ) → p < n → slice_get (take n c) p ≡ slice_get c p
-byte_of_front zero p c lt = absurd (omega (arith, lt))
-byte_of_front (suc n) p [] lt = refl
-byte_of_front (suc n) zero (x ∷ c) lt = refl
-byte_of_front (suc n) (suc p) (x ∷ c) lt = byte_of_front n p c (omega (arith, lt))
-
-gate_least : (h : Bool) (end : ℕ) → end ≤ (if h then end + 32 else end)
-gate_least true end = omega arith
-gate_least false end = omega arith
-
-module _ (q : ℕ) (left file : List ℕ) (agree : take q left ≡ take q file) (far : first_gate file ≤ q) where
-  end_near : image_end file ≤ q
-  end_near = omega (arith, far, gate_least (has_digests (layout_of file)) (image_end file))
-
-  same_4 : (at : ℕ) → at + 4 ≤ 96 → number_in w32 at left ≡ number_in w32 at file
-  same_4 at le = ap (λ (b : List ℕ). from_le_bytes w32 b) (part_same at 4 q left file agree (omega (arith, le, end_near)))
-
-  same_8 : (at : ℕ) → at + 8 ≤ 96 → number_in w64 at left ≡ number_in w64 at file
-  same_8 at le = ap (λ (b : List ℕ). from_le_bytes w64 b) (part_same at 8 q left file agree (omega (arith, le, end_near)))
-
-  same_format : format_of left ≡ format_of file
-  same_format = same_4 8 (omega arith)
-
-  same_profile : profile_of left ≡ profile_of file
-  same_profile = same_4 12 (omega arith)
-
-  pub same_generation : generation_of left ≡ generation_of file
-  same_generation = same_8 16 (omega arith)
-
-  same_long : image_length left ≡ image_length file
-  same_long = same_8 72 (omega arith)
-
-  same_n : number_of left ≡ number_of file
-  same_n = same_8 80 (omega arith)
-
-  same_now : moment_in left ≡ moment_in file
-  same_now = same_8 88 (omega arith)
-
-  same_mark : slice_range left 1 8 ≡ slice_range file 1 8
-  same_mark = part_same 1 7 q left file agree (omega (arith, end_near))
-
-  pub same_id : id_of left ≡ id_of file
-  same_id = part_same 24 16 q left file agree (omega (arith, end_near))
-
-  pub same_secret : secret_of left ≡ secret_of file
-  same_secret = part_same 40 32 q left file agree (omega (arith, end_near))
-
-  pub same_layout : layout_of left ≡ layout_of file
-  same_layout i = record { format = same_format i; profile = profile_at (same_profile i) }
-
-  pub same_bounds : bounds_of left ≡ bounds_of file
-  same_bounds i = record { profile = profile_at (same_profile i); n = same_n i; now = same_now i }
-
-  pub same_end : image_end left ≡ image_end file
-  same_end i = 96 + same_long i
-
-  pub same_gate : first_gate left ≡ first_gate file
-  same_gate i = if has_digests (same_layout i) then same_end i + 32 else same_end i
-
-  pub same_base : (es : List Entry) (ms : List Message) → base_of left es ms ≡ base_of file es ms
-  same_base es ms i = record { number = same_n i; moment = same_now i; entries = es; messages = ms }
-
-  pub same_image : slice_range left 96 (image_end left) ≡ slice_range file 96 (image_end file)
-  same_image = ap (λ (n : ℕ). slice_range left 96 n) same_end ∙ part_same 96 (image_end file - 96) q left file agree (omega (arith, end_near))
-
-  same_front : slice_range left 1 (image_end left) ≡ slice_range file 1 (image_end file)
-  same_front = ap (λ (n : ℕ). slice_range left 1 n) same_end ∙ part_same 1 (image_end file - 1) q left file agree (omega (arith, end_near))
-
-  same_digest : slice_range left (image_end left) (first_gate left) ≡ slice_range file (image_end file) (first_gate file)
-  same_digest = (λ i. slice_range left (same_end i) (same_gate i)) ∙ part_same (image_end file) (first_gate file - image_end file) q left file agree (omega (arith, far, gate_least (has_digests (layout_of file)) (image_end file)))
-
-  pub same_its_digest : has_its_digest left ≡ has_its_digest file
-  same_its_digest i = bytes_eq (same_digest i) (front_digest (same_layout i) (same_front i))
-
-  same_fault : (k : Known) → number_fault k left ≡ number_fault k file
-  same_fault k i = first_some (
-      unless (bytes_eq (same_mark i) mark) 1
-      ∷ unless (is_known_format k (same_format i)) 8
-      ∷ unless (is_known_profile k (same_profile i)) 12
-      ∷ unless (nat_le 1 (same_generation i) && nat_lt (same_generation i) (2 ^ 63)) 16
-      ∷ unless (nat_lt (same_n i) (2 ^ 63)) 80
-      ∷ unless (nat_le (same_now i) MAX_MOMENT) 88
-      ∷ [])
-
-  no_fault : (o : Option ℕ) (v : Bool) → option_or o (unless v 72) ≡ None → o ≡ None
-  no_fault None v is = refl
-  no_fault (Some x) v is = absurd (cc is)
-
-  pub still_stands : (k : Known) → q < length left → Stands k file → Stands k left
-  still_stands k within stands =
-      let parts = and_parts (nat_le 96 (length file)) (is_open_at 0 file) stands.0 in
-      let long : nat_le 96 (length left) ≡ true = le-leb 96 (length left) (omega (arith, within, end_near)) in
-      let first : slice_get left 0 ≡ slice_get file 0 = sym (byte_of_front q 0 left (omega (arith, end_near))) ∙ ap (λ (x : List ℕ). slice_get x 0) agree ∙ byte_of_front q 0 file (omega (arith, end_near)) in
-      let gate : is_open_at 0 left ≡ true = ap shows_open first ∙ parts.1 in
-      let opened : is_open left ≡ true = (λ i. long i && gate i) in
-      let fault : head_fault k file ≡ None = sym (ap (λ (v : Bool). if v then head_fault k file else None) stands.0) ∙ stands.1 in
-      let none : number_fault k left ≡ None = same_fault k ∙ no_fault (number_fault k file) (nat_lt (first_gate file) (length file)) fault in
-      let room : nat_lt (first_gate left) (length left) ≡ true = lt-ltb (first_gate left) (length left) (omega (arith, within, far, same_gate)) in
-      let head : head_fault k left ≡ None = (λ i. option_or (none i) (unless (room i) 72)) in
-      (opened, ap (λ (v : Bool). if v then head_fault k left else None) opened ∙ head)
+use Rattle.dkv_files.proofs.Fronts.{part_same, same_generation, same_id, same_secret, same_layout, same_bounds, same_gate, same_base, head_near, same_image, same_its_digest, still_stands}
 
 -- ---- what a found file was read from
 
@@ -246,12 +132,12 @@ module _ (k : Known) (write_of : WriteOf) (which : ℕ) (file left : List ℕ) w
     read_left x is =
         let near_gate : first_gate file ≤ q = near in
         let digest = same_its_digest q left file agree near_gate ∙ its in
-        let same_i = (λ i. image_of (same_bounds q left file agree near_gate i) (same_image q left file agree near_gate i)) ∙ image in
-        let b = same_base q left file agree near_gate es ms in
-        let lay = same_layout q left file agree near_gate in
-        let gate = same_gate q left file agree near_gate in
-        let ids = same_id q left file agree near_gate in
-        let secrets = same_secret q left file agree near_gate in
+        let same_i = (λ i. image_of (same_bounds q left file agree (head_near q left file agree near_gate) i) (same_image q left file agree near_gate i)) ∙ image in
+        let b = same_base q left file agree (head_near q left file agree near_gate) es ms in
+        let lay = same_layout q left file agree (head_near q left file agree near_gate) in
+        let gate = same_gate q left file agree (head_near q left file agree near_gate) in
+        let ids = same_id q left file agree (head_near q left file agree near_gate) in
+        let secrets = same_secret q left file agree (head_near q left file agree near_gate) in
         ap (λ (v : Bool). if not v then damaged which (image_end left) else from_image write_of which left (image_of (bounds_of left) (slice_range left 96 (image_end left)))) digest
         ∙ ap (λ (r : Result (List Entry × List Message) ℕ). from_image write_of which left r) same_i
         ∙ (λ i. from_records which left (b i) (commits_in write_of (lay i) (b i) (gate i) left))
@@ -274,8 +160,8 @@ module _ (k : Known) (write_of : WriteOf) (which : ℕ) (file left : List ℕ) w
     -- where the records end then
     place_left : (t : Scan) → scanned l q tail ≡ t → last_gate left ≡ t.place
     place_left t is =
-        let gate = same_gate q left file agree near in
-        let lay = same_layout q left file agree near in
+        let gate = same_gate q left file agree (head_near q left file agree near) in
+        let lay = same_layout q left file agree (head_near q left file agree near) in
         (λ i. (scanned (lay i) (gate i) (drop (gate i) left)).place) ∙ ap (λ (x : Scan). x.place) (scan_left ∙ ap (λ (x : Scan). scans_on s.bodies x) is)
 
     -- the gate is closed
@@ -324,7 +210,7 @@ module _ (k : Known) (write_of : WriteOf) (which : ℕ) (file left : List ℕ) w
         let b = byte_at q left closed in
         let within : q < length left = omega (arith, length-drop q left, ap length b.2) in (
           record { stands = still_stands q left file agree near k within stands; read = read_left cs (shut b.0 b.1 b.2 b.3); gate = place_left _ (here_shut b.0 b.1 b.2 b.3) },
-          same_generation q left file agree near,
+          same_generation q left file agree (head_near q left file agree near),
         )
 
     -- it rests with the commit too
@@ -339,7 +225,7 @@ module _ (k : Known) (write_of : WriteOf) (which : ℕ) (file left : List ℕ) w
             read = read_left (cs ++ c ∷ []) (opened c (drop (1 + length (laid l q (record_body c))) tail) back legal short is);
             gate = place_left _ (here_opened c (drop (1 + length (laid l q (record_body c))) tail) short is) ∙ ap (λ (n : ℕ). q + n) far;
           },
-          same_generation q left file agree near,
+          same_generation q left file agree (head_near q left file agree near),
         )
 
 -- the answer of a file that is found

@@ -1,5 +1,9 @@
 pub mod Appends
 mod Clears
+pub mod Fresh
+pub mod Fronts
+pub mod Heads
 pub mod Resting
+pub mod Shut
 pub mod Used
 pub mod Written

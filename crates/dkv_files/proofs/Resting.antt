@@ -1,7 +1,8 @@
 -- Two disks that move one after the other, and write nothing.
-use Rattle.std.proofs.Common.{ℕ, List}
-use Rattle.dkv_io.specs.Disks.{LeavesOnly, NoMore, stays, a_moves, b_moves}
+use Rattle.std.proofs.Common.{ℕ, ◌≤◌, List}
+use Rattle.dkv_io.specs.Disks.{Moves, PairImages, LeavesOnly, NoMore, stays, a_moves, b_moves}
 use Rattle.dkv_io.proofs.Moments.{weaker}
+use Rattle.dkv_io.proofs.Moves as runs
 use Rattle.dkv_files.specs.Crashes.{WritesNothing}
 
 module _ {D : Type 0} (images : D → List ℕ → Type 0) (moment : D → ℕ) (since : D → ℕ → List ℕ → Type 0) where
@@ -15,3 +16,14 @@ module _ {D : Type 0} (images : D → List ℕ → Type 0) (moment : D → ℕ) 
   one a b c first a_none =
       a_moves a b c c b (weaker moment since a c (images a) _ (λ x has y other. (has, other)) first)
       (stays c b (λ x y x_has y_has. (a_none x x_has, y_has)))
+
+  -- a run that writes nothing, and then another
+  pub on : (a b c d e f : D) → WritesNothing images moment since a b c d → NoMore (images a) (images c) → NoMore (images b) (images d) → WritesNothing images moment since c d e f → WritesNothing images moment since a b e f
+  on a b c d e f first a_none b_none then =
+      runs.joined images moment since (PairImages (images a) (images b)) a b c d e f first
+      (runs.weaker images moment since (PairImages (images c) (images d)) (PairImages (images a) (images b)) (λ x y has. (a_none x has.0, b_none y has.1)) c d e f then)
+
+  -- the one disk moves while the other stands still
+  pub moves_of : ((d : D) (t : ℕ) (x : List ℕ) → t ≤ moment d → images d x → since d t x) → (a a_end b : D) (P : List ℕ → List ℕ → Type 0)
+      → LeavesOnly moment since a a_end (λ x. (y : List ℕ) → images b y → P x y) → Moves images moment since P a b a_end b
+  moves_of counts a a_end b P leaves = a_moves a b a_end a_end b leaves (stays a_end b (λ x y now has. leaves.each x (counts a_end (moment a) x leaves.later now) y has))

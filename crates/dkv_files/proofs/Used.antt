@@ -8,7 +8,7 @@ use Rattle.dkv_base.specs.Limits.{first_some}
 use Rattle.dkv_base.specs.Profiles.{Known}
 use Rattle.dkv_files.specs.Files.{is_open, generation_of, head_fault}
 use Rattle.dkv_record.specs.Records.{WriteOf}
-use Rattle.dkv_files.specs.Recovered.{Recovery, no_database, damaged, open_fault, from_file}
+use Rattle.dkv_files.specs.Recovered.{Recovery, no_database, damaged, open_fault, from_file, recovered_by}
 use Rattle.dkv_files.specs.Laws.{FirstIsUsed, SecondIsUsed}
 
 abbrev answer : Option ℕ → Option ℕ → Bool → Bool → Bool → Bool → Recovery → Recovery → Recovery
@@ -40,6 +40,13 @@ first k write_of a b stands (inr beside) =
     let lower = not_lower (generation_of a) (generation_of b) beside.1 in
     let other = beside.0 in
     λ i. answer (stands.1 i) (other.1 i) (stands.0 i) (other.0 i) (same i) (lower i) (from_file write_of 0 a) (from_file write_of 1 b)
+
+-- where neither is open there is no database
+pub neither : (k : Known) (write_of : WriteOf) (a b : List ℕ) → is_open a ≡ false → is_open b ≡ false → recovered_by k write_of a b ≡ no_database
+neither k write_of a b shut_a shut_b =
+    let fault_a = shut_fault k a shut_a in
+    let fault_b = shut_fault k b shut_b in
+    λ i. answer (fault_a i) (fault_b i) (shut_a i) (shut_b i) (generation_of a == generation_of b) (nat_lt (generation_of a) (generation_of b)) (from_file write_of 0 a) (from_file write_of 1 b)
 
 pub second : (k : Known) (write_of : WriteOf) → SecondIsUsed k write_of
 second k write_of a b stands (inl shut) =

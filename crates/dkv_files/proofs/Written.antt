@@ -26,7 +26,8 @@ use Rattle.dkv_base.specs.Fits.{FitsCommit}
 use Rattle.dkv_journal.specs.Records.{Scan, at_closed, has_digests, records, record_size, scanned, scanned_at}
 use Rattle.dkv_journal.specs.declared.gates.TheConstants.{OPEN_GATE}
 use Rattle.dkv_image.specs.Image.{bounds, Bounds, image, image_of}
-use Rattle.dkv_files.specs.Files.{Head, mark, head_bytes, front, front_digest, before_records, file_of, format_of, profile_of, generation_of, id_of, secret_of, image_length, number_of, moment_in, layout_of, bounds_of, image_end, first_gate, is_open, unless, number_fault, head_fault}
+use Rattle.dkv_files.specs.Files.{mark, head_bytes, front, front_digest, before_records, file_of, format_of, profile_of, generation_of, id_of, secret_of, image_length, number_of, moment_in, layout_of, bounds_of, image_end, first_gate, is_open, unless, number_fault, head_fault}
+use Rattle.dkv_files.specs.declared.head.FileHead.{FileHead}
 use Rattle.dkv_files.specs.Recovered.{Stands, Recovery, found, damaged, replayed, settled, commits_in, next_commit, if_legal, base_of, from_records, from_image, has_its_digest, from_file}
 use Rattle.dkv_record.specs.Records.{WriteOf}
 use Rattle.dkv_record.specs.Laws.{ReadsWrites}
@@ -81,7 +82,7 @@ replay_all write_of reads l base (c ∷ cs) before p fits short legal =
 
 -- ---- the header
 
-module _ (k : Known) (l : Layout) (head : Head) (es : List Entry) (ms : List Message) (cs : List Commit) (rest : List ℕ) (is : IsFile k l head es ms cs) where
+module _ (k : Known) (l : Layout) (head : FileHead) (es : List Entry) (ms : List Message) (cs : List Commit) (rest : List ℕ) (is : IsFile k l head es ms cs) where
   abbrev m : ℕ
   m = length (image es ms)
 
@@ -290,5 +291,5 @@ module _ (k : Known) (l : Layout) (head : Head) (es : List Entry) (ms : List Mes
       let none : head_fault k file ≡ None = (λ i. option_or (numbers i) (unless (room i) 72)) in
       (opened, ap (λ (v : Bool). if v then head_fault k file else None) opened ∙ none)
 
-file_is_read : (k : Known) (write_of : WriteOf) → FileIsRead k write_of
+pub file_is_read : (k : Known) (write_of : WriteOf) → FileIsRead k write_of
 file_is_read k write_of reads which l head es ms cs rest is = (stands k l head es ms cs rest is, file_read k l head es ms cs rest is write_of reads which)

@@ -19,22 +19,15 @@ use Rattle.dkv_base.specs.Profiles.{Known, is_known_format, is_known_profile, pr
 use Rattle.dkv_journal.specs.declared.gates.TheConstants.{OPEN_GATE, CLOSED_GATE}
 use Rattle.dkv_journal.specs.Records.{has_digests, is_open_at, records}
 use Rattle.dkv_image.specs.Image.{Bounds, image}
+use Rattle.dkv_files.specs.declared.head.FileHead.{FileHead}
 
 -- ---- writing
-
--- what a header tells beside the layout and the image's length
-pub record Head : Type 0 where
-  pub generation : ℕ
-  pub id : List ℕ
-  pub secret : List ℕ
-  pub n : ℕ
-  pub now : ℕ
 
 -- DKVFILE
 abbrev pub mark : List ℕ
 mark = 68 ∷ 75 ∷ 86 ∷ 70 ∷ 73 ∷ 76 ∷ 69 ∷ []
 
-abbrev pub head_bytes : Layout → Head → ℕ → List ℕ
+abbrev pub head_bytes : Layout → FileHead → ℕ → List ℕ
 head_bytes l head m =
     mark
     ++ to_le_bytes w32 l.format
@@ -47,7 +40,7 @@ head_bytes l head m =
     ++ to_le_bytes w64 head.now
 
 -- header and image
-abbrev pub front : Layout → Head → List Entry → List Message → List ℕ
+abbrev pub front : Layout → FileHead → List Entry → List Message → List ℕ
 front l head es ms = head_bytes l head (length (image es ms)) ++ image es ms
 
 -- the digest of header and image; format 1 has none
@@ -55,21 +48,21 @@ abbrev pub front_digest : Layout → List ℕ → List ℕ
 front_digest l bytes = if has_digests l then sha256 bytes else []
 
 -- the file up to its first record
-abbrev pub before_records : Layout → ℕ → Head → List Entry → List Message → List ℕ
+abbrev pub before_records : Layout → ℕ → FileHead → List Entry → List Message → List ℕ
 before_records l gate head es ms = gate ∷ front l head es ms ++ front_digest l (front l head es ms)
 
-abbrev pub file_bytes : Layout → ℕ → Head → List Entry → List Message → List (List ℕ) → List ℕ
+abbrev pub file_bytes : Layout → ℕ → FileHead → List Entry → List Message → List (List ℕ) → List ℕ
 file_bytes l gate head es ms bodies = before_records l gate head es ms ++ records l (length (before_records l gate head es ms)) bodies
 
 -- what a fill writes: no records, and the file's gate closed; and what opening the gate makes of it
-abbrev pub filled : Layout → Head → List Entry → List Message → List ℕ
+abbrev pub filled : Layout → FileHead → List Entry → List Message → List ℕ
 filled l head es ms = file_bytes l CLOSED_GATE head es ms []
 
 abbrev pub with_open_gate : List ℕ → List ℕ
 with_open_gate file = slice_set file 0 OPEN_GATE
 
 -- a file with these commits
-abbrev pub file_of : Layout → ℕ → Head → List Entry → List Message → List Commit → List ℕ
+abbrev pub file_of : Layout → ℕ → FileHead → List Entry → List Message → List Commit → List ℕ
 file_of l gate head es ms cs = file_bytes l gate head es ms (map record_body cs)
 
 -- ---- reading a header
@@ -107,7 +100,7 @@ layout_of file = record { format = format_of file; profile = profile_at (profile
 abbrev pub bounds_of : List ℕ → Bounds
 bounds_of file = record { profile = profile_at (profile_of file); n = number_of file; now = moment_in file }
 
-abbrev pub head_of : List ℕ → Head
+abbrev pub head_of : List ℕ → FileHead
 head_of file = record {
   generation = generation_of file;
   id = id_of file;

@@ -7,7 +7,8 @@ use Rattle.dkv_base.specs.declared.types.Message.{Message}
 use Rattle.dkv_base.specs.State.{State}
 use Rattle.dkv_base.specs.After.{after, is_legal_at}
 use Rattle.dkv_base.specs.Spelling.{record_length}
-use Rattle.dkv_files.specs.Files.{Head, file_of, head_of}
+use Rattle.dkv_files.specs.Files.{file_of, head_of}
+use Rattle.dkv_files.specs.declared.head.FileHead.{FileHead}
 use Rattle.dkv_base.specs.declared.types.Layout.{Layout}
 use Rattle.dkv_base.specs.declared.types.Profile.{Profile}
 use Rattle.dkv_base.specs.Profiles.{Known, is_known_format, is_known_profile, profile_number, body_most}
@@ -30,11 +31,11 @@ AfterFits = (p : Profile) (base : State) (cs : List Commit) → IsTrue (is_image
 
 -- ---- files
 
-abbrev pub state_of : Head → List Entry → List Message → State
+abbrev pub state_of : FileHead → List Entry → List Message → State
 state_of head es ms = record { number = head.n; moment = head.now; entries = es; messages = ms }
 
 -- what a file may be written of
-pub record IsFile (k : Known) (l : Layout) (head : Head) (es : List Entry) (ms : List Message) (cs : List Commit) : Type 0 where
+pub record IsFile (k : Known) (l : Layout) (head : FileHead) (es : List Entry) (ms : List Message) (cs : List Commit) : Type 0 where
   pub format : IsTrue (is_known_format k l.format)
   pub profile : IsTrue (is_known_profile k (profile_number l.profile))
   pub numbers : IsHead head
@@ -47,12 +48,12 @@ pub record IsFile (k : Known) (l : Layout) (head : Head) (es : List Entry) (ms :
   pub commits : AllByRecursion FitsCommit cs
   pub bodies : AllByRecursion (λ c. record_length c ≤ body_most l.profile) cs
 
-abbrev pub found_of : Layout → Head → List Entry → List Message → List Commit → Found
+abbrev pub found_of : Layout → FileHead → List Entry → List Message → List Commit → Found
 found_of l head es ms cs = record { base = state_of head es ms; commits = cs; id = head.id; secret = head.secret; layout = l }
 
 -- a written file stands and is read as what it was written of, whatever follows it
 abbrev pub FileIsRead : Known → WriteOf → Type 0
-FileIsRead k write_of = ReadsWrites write_of → (which : ℕ) (l : Layout) (head : Head) (es : List Entry) (ms : List Message) (cs : List Commit) (rest : List ℕ)
+FileIsRead k write_of = ReadsWrites write_of → (which : ℕ) (l : Layout) (head : FileHead) (es : List Entry) (ms : List Message) (cs : List Commit) (rest : List ℕ)
     → IsFile k l head es ms cs
     → Stands k (file_of l OPEN_GATE head es ms cs ++ rest)
     × (from_file write_of which (file_of l OPEN_GATE head es ms cs ++ rest) ≡ found (found_of l head es ms cs))

@@ -28,7 +28,7 @@ pub fn set_gate<D: Disk>(disk: &mut D, place: u64, gate: u8) -> Result<(), Faile
 }
 
 /// Writes bytes behind a closed gate, and syncs. A crash leaves the gate closed, and what stands before it as it was.
-pub(crate) fn write_behind<D: Disk>(disk: &mut D, place: u64, bytes: &[u8]) -> Result<(), Failed>
+pub fn write_behind<D: Disk>(disk: &mut D, place: u64, bytes: &[u8]) -> Result<(), Failed>
     requires { EachImage (D.seen disk.old) (D.may_leave disk.old)
         (λ image. IsTrue (is_closed_at place image)) }
     ensures leaves { WhereTold (D.seen disk.old) (λ _. LeavesFrom

@@ -11,7 +11,7 @@ mod laid;
 mod laws;
 mod scan;
 
-pub use gates::{CLOSED_GATE, OPEN_GATE, set_gate};
+pub use gates::{CLOSED_GATE, OPEN_GATE, set_gate, write_behind};
 pub use journal::Journal;
 pub use laid::Laid;
 pub use laws::{appends_keep_records, records_are_scanned};
