@@ -7,3 +7,4 @@ pub mod Standing
 pub mod Trailing
 pub mod Answering
 pub mod Going
+pub mod Leading

@@ -1,5 +1,5 @@
 // The calls of a store as the one-thread database answers them.
-ghost use Rattle.std.specs.Prelude.{◌≡◌, ◌<◌, ◌≤◌, ◌-◌, ◌^◌, List, ℕ, [], length, false, IsTrue, IfOk, MatchResult, None, Some, Err};
+ghost use Rattle.std.specs.Prelude.{◌≡◌, ◌<◌, ◌≤◌, ◌-◌, ◌^◌, ℕ, [], length, false, IsTrue, IfOk, MatchResult, None, Some, Err};
 ghost use Rattle.dkv_base.specs.declared.types.Ask.TheVariants.{Read};
 ghost use Rattle.dkv_base.specs.declared.types.Answer.TheVariants.{Entries};
 ghost use Rattle.dkv_base.specs.Limits.{read_limit};
@@ -10,10 +10,9 @@ ghost use Rattle.dkv_io.specs.Causes.{Rose};
 ghost use Rattle.dkv_msgs.specs.Outputs.{read_output};
 ghost use Rattle.dkv_msgs.specs.Spellings.{spell_snapshot_read_output};
 ghost use Rattle.dkv_io.specs.Disks.{Told, AnyBytes};
-ghost use Rattle.dkv_store.specs.Held.{CommitMoves};
 ghost use Rattle.dkv_store.specs.Situations.{Answers, AnswersCall, AnswersTake};
 ghost use Rattle.dkv_store.specs.Stores.{IsDone, IsRefused, IsRaisedTo, IsShort, IsOldOrNew, Kept, SameDisks, effective_at};
-ghost use Rattle.dkv_store.specs.Terms.{Leads, left_in_doubt};
+ghost use Rattle.dkv_store.specs.Terms.{CommitLeaves, FilesStand, Leads, left_in_doubt};
 ghost use Rattle.dkv_store.specs.declared.answers.Refusal.TheVariants as refusal;
 
 use crate::answers::{Done, Refusal};
@@ -24,9 +23,11 @@ use dkv_io::Disk;
 use std::alloc::Global;
 
 impl<D: Disk> Store<D> {
-    /// What its type keeps. Takes no memory, and does nothing.
+    /// What its type keeps, at every moment. Takes no memory, and does nothing.
     pub fn is_kept(&self)
-        ensures { Kept D.faults self.now }
+        ensures kept { Kept D.faults self.now }
+        // Stopped now, the files recover to its state, or to that and the commit in doubt.
+        ensures stands { FilesStand D.seen D.may_leave self.now }
     {
         let _ = &self.core;
     }
@@ -45,17 +46,21 @@ impl<D: Disk> Store<D> {
             (λ r. IsRefused self.old who (effective_at self.old at) call r self.new) }
         // Stopped at any moment, the files recover to a state of the term.
         ensures goes { Leads D.seen D.may_leave D.moment D.left_since
-            (left_in_doubt result (length (commits self.old.trail)) (commit_of who (effective_at self.old at) call))
+            (left_in_doubt result (length (commits self.old.trail))
+            (commit_of who (effective_at self.old at) call))
             self.old self.new }
-        ensures moves { (fa fb : List ℕ) → D.seen self.old.a ≡ Some fa → D.seen self.old.b ≡ Some fb
-            → CommitMoves D.may_leave D.moment D.left_since self.old.who self.old.core.state self.old.doubt (commit_of who (effective_at self.old at) call) self.old.a self.old.b self.new.a self.new.b }
-        ensures cause { result ≡ Err refusal.DiskFault → Rose (D.faults self.old.a) (D.faults self.new.a) }
+        ensures moves { CommitLeaves D.seen D.may_leave D.moment D.left_since
+            self.old (commit_of who (effective_at self.old at) call) self.new }
+        ensures cause { result ≡ Err refusal.DiskFault
+            → Rose (D.faults self.old.a) (D.faults self.new.a) }
         // In doubt is the old commit or this one, if one is.
-        ensures doubted { result ≡ Err refusal.DiskFault → IsOldOrNew self.old.doubt (commit_of who (effective_at self.old at) call) self.new.doubt }
+        ensures doubted { result ≡ Err refusal.DiskFault → IsOldOrNew
+            self.old.doubt (commit_of who (effective_at self.old at) call) self.new.doubt }
         ensures told { Told AnyBytes (D.seen self.old.a) (D.seen self.new.a) }
         ensures later { D.faults self.old.a ≤ D.faults self.new.a }
         ensures other { self.new.b ≡ self.old.b }
-        ensures first { (self.new.a_first ≡ self.old.a_first) × (self.new.b_first ≡ self.old.b_first) }
+        ensures first { (self.new.a_first ≡ self.old.a_first)
+            × (self.new.b_first ≡ self.old.b_first) }
     {
         self.is_kept();
         let done = self.commit_kept(alloc, who, at, call);
