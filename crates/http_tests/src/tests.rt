@@ -5,6 +5,7 @@ use std::alloc::Global;
 
 mod fields;
 mod long;
+mod plans;
 mod refused;
 mod served;
 
