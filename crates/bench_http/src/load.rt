@@ -41,14 +41,20 @@ fn asked(alloc: Global, line: &[u8], length: &[u8], body: &[u8]) -> Result<Vec<u
 
 // A body of zeros whose length is told.
 fn whole_body(alloc: Global) -> Result<Vec<u8>, NoMemory> {
-    let mut text = Vec::from_slice(alloc, b"POST /x HTTP/1.1\r\nhost: a\r\ncontent-length: 2000000\r\n\r\n")?;
+    let mut text = Vec::from_slice(
+        alloc,
+        b"POST /x HTTP/1.1\r\nhost: a\r\ncontent-length: 2000000\r\n\r\n",
+    )?;
     text.resize(text.len() + BODY_BYTES, 0)?;
     Ok(text)
 }
 
 // The same body in chunks.
 fn chunked_body(alloc: Global) -> Result<Vec<u8>, NoMemory> {
-    let mut text = Vec::from_slice(alloc, b"POST /x HTTP/1.1\r\nhost: a\r\ntransfer-encoding: chunked\r\n\r\n")?;
+    let mut text = Vec::from_slice(
+        alloc,
+        b"POST /x HTTP/1.1\r\nhost: a\r\ntransfer-encoding: chunked\r\n\r\n",
+    )?;
     for _ in 0..BODY_BYTES / CHUNK_BYTES {
         text.extend_from_slice(b"c350\r\n")?;
         text.extend_from_slice(&[0; CHUNK_BYTES])?;

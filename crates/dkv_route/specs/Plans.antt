@@ -1,7 +1,9 @@
 -- What is planned for a request.
 --     IsPlan site q t plan      the plan is a whole response, or what the database is asked
+--     IsWithin plan      what the database is asked passes no limit
 --     IsWanted wants access result, IsPlanned site close t access result      the same before the refusals have their bytes
-use Rattle.std.specs.Prelude.{ℕ, ◌≡◌, Bool, List, Result, Ok, Err, ⊤}
+use Rattle.std.specs.Prelude.{ℕ, ◌≡◌, Bool, List, None, Result, Ok, Err, ⊤}
+use Rattle.dkv_base.specs.Limits.{read_limit, write_limit, watch_limit}
 use Rattle.dkv_heads.specs.Requests.{Received}
 use Rattle.dkv_meta.specs.Reply.{IsExchange}
 use Rattle.dkv_msgs.specs.declared.requests.RequestError.{RequestError}
@@ -34,6 +36,13 @@ Plans site q t (Ok wanted) planned = Serves site q.close t wanted planned
 -- the plan for a request at moment t
 abbrev pub IsPlan : Site → Received → ℕ → Plan → Type 0
 IsPlan site q t planned = Plans site q t (access site q t) planned
+
+-- what the database is asked passes no limit
+abbrev pub IsWithin : Plan → Type 0
+IsWithin (plan.Read ranges) = read_limit ranges ≡ None
+IsWithin (plan.Write w) = write_limit w ≡ None
+IsWithin (plan.Watch keys) = watch_limit keys ≡ None
+IsWithin _ = ⊤
 
 -- why a body that was not read is refused
 abbrev pub unplanned_of : RequestError → Unplanned

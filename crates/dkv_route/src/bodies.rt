@@ -1,9 +1,9 @@
 // What the body of a request wants.
-ghost use Rattle.std.specs.Prelude.{◌≡◌};
+ghost use Rattle.std.specs.Prelude.{◌≡◌, None, IfOk};
 ghost use Rattle.dkv_base.specs.Limits.{read_limit, write_limit, watch_limit};
 ghost use Rattle.dkv_msgs.specs.Readings.{reads_ranges, reads_atomic_write, reads_keys};
 ghost use Rattle.dkv_route.specs.Access.{within, wanted_by, read, write, watch};
-ghost use Rattle.dkv_route.specs.Plans.{IsWanted, IsPlanned};
+ghost use Rattle.dkv_route.specs.Plans.{IsWanted, IsPlanned, IsWithin};
 ghost use Rattle.dkv_route.specs.declared.targets.Path.TheVariants as path;
 
 use crate::access::Cause;
@@ -56,7 +56,8 @@ impl From<RequestError> for Unplanned {
 }
 
 fn read_of(alloc: Global, body: &[u8]) -> Result<Run<ReadRange>, Unplanned>
-    ensures { IsWanted read (within read_limit read (reads_ranges body.now)) result }
+    ensures wanted { IsWanted read (within read_limit read (reads_ranges body.now)) result }
+    ensures unlimited { IfOk result (λ ranges. read_limit ranges ≡ None) }
 {
     let request = request_snapshot_read(alloc, body)?;
     match read_limits(request.ranges.as_slice()) {
@@ -66,7 +67,8 @@ fn read_of(alloc: Global, body: &[u8]) -> Result<Run<ReadRange>, Unplanned>
 }
 
 fn write_of(alloc: Global, body: &[u8]) -> Result<AtomicWrite, Unplanned>
-    ensures { IsWanted write (within write_limit write (reads_atomic_write body.now)) result }
+    ensures wanted { IsWanted write (within write_limit write (reads_atomic_write body.now)) result }
+    ensures unlimited { IfOk result (λ w. write_limit w ≡ None) }
 {
     let request = request_atomic_write(alloc, body)?;
     match limits(&request) {
@@ -76,7 +78,8 @@ fn write_of(alloc: Global, body: &[u8]) -> Result<AtomicWrite, Unplanned>
 }
 
 fn watch_of(alloc: Global, body: &[u8]) -> Result<Run<Bytes>, Unplanned>
-    ensures { IsWanted watch (within watch_limit watch (reads_keys body.now)) result }
+    ensures wanted { IsWanted watch (within watch_limit watch (reads_keys body.now)) result }
+    ensures unlimited { IfOk result (λ keys. watch_limit keys ≡ None) }
 {
     let request = request_watch(alloc, body)?;
     match watch_limits(request.keys.as_slice()) {
@@ -93,7 +96,8 @@ fn exchanged(
     body: &[u8],
     close: bool,
 ) -> Result<Plan, Unplanned>
-    ensures { IsPlanned site.now close at (wanted_by path.Root body.now) result }
+    ensures planned { IsPlanned site.now close at (wanted_by path.Root body.now) result }
+    ensures unlimited { IfOk result IsWithin }
 {
     match exchange(alloc, body, site, at) {
         Ok(text) => Ok(Plan::Reply(response(alloc, OK, Kind::Json, text.as_slice(), close)?)),
@@ -111,7 +115,8 @@ pub(crate) fn planned_by(
     body: &[u8],
     close: bool,
 ) -> Result<Plan, Unplanned>
-    ensures { IsPlanned site.now close at (wanted_by path body.now) result }
+    ensures planned { IsPlanned site.now close at (wanted_by path body.now) result }
+    ensures unlimited { IfOk result IsWithin }
 {
     match path {
         Path::Root => exchanged(alloc, site, at, body, close),

@@ -3,7 +3,7 @@ ghost use Rattle.std.specs.Prelude.{IfOk};
 ghost use Rattle.dkv_heads.specs.Requests.{Received};
 ghost use Rattle.dkv_http.specs.Conns.{IsRequest};
 ghost use Rattle.dkv_route.specs.Access.{access};
-ghost use Rattle.dkv_route.specs.Plans.{IsPlan, IsPlanned};
+ghost use Rattle.dkv_route.specs.Plans.{IsPlan, IsPlanned, IsWithin};
 
 use crate::access::{Cause, early_cause};
 use crate::bodies::{Unplanned, planned_by};
@@ -16,8 +16,9 @@ use dkv_token::Site;
 use std::alloc::Global;
 
 fn planned(alloc: Global, request: &Request, site: &Site, at: u64) -> Result<Plan, Unplanned>
-    ensures { (q : Received) → IsRequest q request.now
+    ensures planned { (q : Received) → IsRequest q request.now
         → IsPlanned site.now q.close at (access site.now q at) result }
+    ensures unlimited { IfOk result IsWithin }
 {
     let Some(path) = path_of(request.target.as_slice()) else {
         return Err(Unplanned::Refused(Cause::NotFound));
@@ -41,6 +42,7 @@ fn planned(alloc: Global, request: &Request, site: &Site, at: u64) -> Result<Pla
 pub fn plan(alloc: Global, request: &Request, site: &Site, at: u64) -> Result<Plan, NoMemory>
     ensures plan { IfOk result (λ planned.
         (q : Received) → IsRequest q request.now → IsPlan site.now q at planned) }
+    ensures unlimited { IfOk result IsWithin }
 {
     match planned(alloc, request, site, at) {
         Ok(plan) => Ok(plan),

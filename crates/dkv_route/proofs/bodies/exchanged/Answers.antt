@@ -5,8 +5,8 @@ use Rattle.dkv_route.specs.Access.{exchange}
 use Rattle.dkv_route.specs.Answers.{exchange_response}
 use Rattle.dkv_route.proofs.bodies.exchanged.Goals as goal
 
-pub returns-in_ok-response-in-Ok : goal.returns-in_ok-response-in-Ok
-returns-in_ok-response-in-Ok c =
+pub returns-in_ok-response-in-Ok-clause-planned : goal.returns-in_ok-response-in-Ok-clause-planned
+returns-in_ok-response-in-Ok-clause-planned c =
     let reply = c.in-Ok.ensures.reply in (
       exchange reply.0,
       ap (λ (o : Option ℕ). option_map_or (λ version. Ok (exchange version)) o (Err cause.BadExchange)) reply.1,
