@@ -8,6 +8,7 @@
 
 pub mod codes;
 mod laws;
+mod order;
 mod part;
 mod reading;
 mod stamps;
@@ -19,6 +20,7 @@ pub use laws::{
     keys_order_as_parts, one_first_fault, one_list_of_parts, range_holds_longer_keys,
     stamps_order_as_numbers, suffix_is_a_text,
 };
+pub use order::compare;
 pub use part::{KeyError, Part};
 pub use reading::decode;
 pub use stamps::{STAMP_DIGITS, SUFFIX_BYTES, stamp_hex, stamp_of, suffix};
