@@ -9,8 +9,7 @@ use Rattle.dkv_base.specs.Profiles.{known_first, body_most}
 use Rattle.dkv_base.specs.Spelling.{record_body, record_length}
 use Rattle.dkv_base.proofs.Composes.{after_composes, legal_composes}
 use Rattle.dkv_base.proofs.StaysSound.{after_is_sound}
-use Rattle.dkv_base.proofs.Told.{after_nothing}
-use Rattle.dkv_base.proofs.Narrow.{narrow}
+use Rattle.dkv_base.proofs.AfterNothing.{after_nothing}
 use Rattle.dkv_journal.specs.Crashes.{StaysShut, IsDoubted, Appended, HasRecord}
 use Rattle.dkv_journal.specs.Records.{first_layout, record_size}
 use Rattle.dkv_journal.proofs.Torn.{doubted_appended, next_shut}
@@ -68,7 +67,7 @@ module _ (f : Found) (generation p : ℕ) (c : Commit) (s : State) (sound : IsSo
   legal_grown = legal_more f.base f.commits c sound legal may_legal
 
   legal_at : is_legal_at f.layout.profile f.base (f.commits ++ c ∷ []) ≡ true
-  legal_at = ap (λ (l : Layout). is_legal_at l.profile f.base (f.commits ++ c ∷ [])) layout ∙ narrow f.base (f.commits ++ c ∷ []) ∙ legal_grown
+  legal_at = ap (λ (l : Layout). is_legal_at l.profile f.base (f.commits ++ c ∷ [])) layout ∙ legal_grown
 
   short_at : record_length c ≤ body_most f.layout.profile
   short_at = subst (λ (l : Layout). record_length c ≤ body_most l.profile) (sym layout) may.short

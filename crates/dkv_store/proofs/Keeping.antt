@@ -1,6 +1,6 @@
 -- A store keeps what its type says, after a commit and after a fault.
-use Rattle.std.proofs.Common.{◌≡◌, ℕ, ◌≤◌, true, List, [], ◌∷◌, ◌++◌, Option, Some, refl, sym, ap, ◌∙◌, subst, arith, IsTrue}
-use Rattle.std.specs.Prelude.{is_some}
+use Rattle.std.proofs.Common.{◌≡◌, ℕ, ◌≤◌, true, false, List, [], ◌∷◌, ◌++◌, Option, Some, None, refl, sym, ap, ◌∙◌, subst, arith, IsTrue}
+use Rattle.std.specs.Prelude.{is_some, count_by}
 use Rattle.std.specs.Option.{option_map_or}
 use Rattle.std.proofs.lemmas.List.{append-nil}
 use Rattle.dkv_base.specs.declared.types.Call.{Call}
@@ -11,8 +11,11 @@ use Rattle.dkv_base.specs.declared.types.Item.TheVariants as item
 use Rattle.dkv_base.specs.State.{State}
 use Rattle.dkv_base.specs.Messages.{moment_of, is_out, next}
 use Rattle.dkv_base.specs.After.{after, is_legal_in}
-use Rattle.dkv_base.specs.Trails.{commits, greatest}
-use Rattle.dkv_base.proofs.Told.{commits-push}
+use Rattle.dkv_base.specs.Trails.{commits, greatest, out, first_stop, is_legal_trail}
+use Rattle.dkv_base.specs.Sound.{IsSound}
+use Rattle.dkv_base.proofs.AfterNothing.{after_nothing}
+use Rattle.dkv_core.specs.Runs.{no_limit}
+use Rattle.dkv_base.proofs.LongerTrails.{commits-push}
 use Rattle.dkv_core.specs.Cores.{Database, Change, applied}
 use Rattle.dkv_core.specs.Decisions.{commit_of, Goes}
 use Rattle.dkv_core.specs.Settling.{out_after}
@@ -24,7 +27,7 @@ use Rattle.dkv_io.specs.Causes.{Rose}
 use Rattle.dkv_journal.specs.declared.journal.Journal.{Journal}
 use Rattle.dkv_files.specs.Crashes.{Identity, and_then}
 use Rattle.dkv_store.specs.Held.{Hold, Guarded}
-use Rattle.dkv_store.specs.Stores.{Keeps, is_doubt}
+use Rattle.dkv_store.specs.Stores.{Contents, Keeps, is_doubt}
 use Rattle.dkv_store.proofs.Trailing.{count_push, leased_doubt, leased_made, legal_doubt, legal_made, state_made, unstopped_on, moments_on, leased_took, legal_took, next_same}
 
 made_at : (who t : ℕ) (a : Call) → moment_of (commit_of who t a) ≡ t
@@ -109,3 +112,20 @@ module _ {D : Type 0} (sees : D → Option (List ℕ)) (images : D → List ℕ 
         named = kept.named;
         stands = λ fa told. subst (λ (s : State). Hold (images a) (Guarded (sees b) (images b)) j doubt s me) (sym state) (kept.stands fa told);
       })
+
+-- where a term begins
+pub kept_begun : {D : Type 0} (sees : D → Option (List ℕ)) (images : D → List ℕ → Type 0) (faults : D → ℕ) (j : Journal) (s : Contents D)
+    → IsSound s.core.state → s.core.out ≡ [] → s.core.state.moment ≤ s.core.greatest → j.in_doubt ≡ false
+    → s.base ≡ s.core.state → s.trail ≡ [] → s.doubt ≡ None → s.a_first ≡ s.a → s.b_first ≡ s.b
+    → ((fa : List ℕ) → sees s.a ≡ Some fa → Hold (images s.a) (Guarded (sees s.b) (images s.b)) j None s.core.state s.who) → Keeps sees images faults j s
+kept_begun {D} sees images faults j s sound none late sure base trail doubt a b stands = record {
+  sound = subst IsSound (sym base) sound;
+  state = sym ((λ i. after (base i) (commits (trail i))) ∙ after_nothing s.core.state sound);
+  legal = subst (λ (l : List Item). IsTrue (is_legal_trail s.base no_limit l)) (sym trail) refl;
+  leased = λ k. ap (is_out k) none ∙ ap (λ (l : List Item). is_out k (out l)) (sym trail);
+  unstopped = ap first_stop trail;
+  moments = subst (λ (l : List Item). greatest s.base l ≤ s.core.greatest) (sym trail) (subst (λ (x : State). x.moment ≤ s.core.greatest) (sym base) late);
+  doubts = λ low_a low_b. let same_a = ap faults a in let same_b = ap faults b in let counted = ap (count_by is_doubt) trail in omega (arith, same_a, same_b, counted);
+  named = sure ∙ sym (ap is_some doubt);
+  stands = λ fa told. subst (λ (o : Option Commit). Hold (images s.a) (Guarded (sees s.b) (images s.b)) j o s.core.state s.who) (sym doubt) (stands fa told);
+}

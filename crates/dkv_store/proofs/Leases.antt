@@ -8,7 +8,7 @@ use Rattle.dkv_base.specs.declared.types.Call.TheVariants as call
 use Rattle.dkv_base.specs.declared.types.MsgId.{MsgId}
 use Rattle.dkv_base.specs.Messages.{moment_of, is_out}
 use Rattle.dkv_base.specs.State.{same_id}
-use Rattle.dkv_base.proofs.Told.{same_id_self}
+use Rattle.dkv_base.proofs.NamedMessages.{same_id_self}
 use Rattle.dkv_core.specs.Cores.{Database}
 use Rattle.dkv_core.specs.Decisions.{commit_of, settled_by}
 use Rattle.dkv_core.specs.Settling.{out_after, without_id}

@@ -6,9 +6,8 @@ use Rattle.dkv_base.specs.declared.types.Profile.TheVariants.{Narrow}
 use Rattle.dkv_base.specs.State.{State}
 use Rattle.dkv_base.specs.Sound.{IsSound}
 use Rattle.dkv_base.specs.After.{is_legal_in, is_legal_at}
-use Rattle.dkv_base.proofs.Narrow.{narrow}
 use Rattle.dkv_base.proofs.StaysSound.{after_is_sound}
-use Rattle.dkv_base.proofs.Told.{after_nothing}
+use Rattle.dkv_base.proofs.AfterNothing.{after_nothing}
 use Rattle.dkv_journal.specs.declared.journal.Journal.{Journal}
 use Rattle.dkv_io.specs.Disks.{EachPair, stays}
 use Rattle.dkv_files.specs.Crashes.{Identity, StandsOrDoubtful, IsOneOf, with_doubt}
@@ -24,7 +23,7 @@ module _ (A B images : List ℕ → Type 0) (opens : (y : List ℕ) → images y
       let sound : IsSound s = subst IsSound hold.state (after_is_sound hold.found.base hold.found.commits hold.sound hold.legal) in
       let same = after_nothing s sound in
       let profile : who.profile ≡ Narrow = sym (ap (λ (w : Identity). w.profile) hold.identity) ∙ ap (λ l. l.profile) hold.layout in
-      ap (λ (p : Profile). is_legal_at p s (c ∷ [])) profile ∙ narrow s (c ∷ []) ∙ ap (λ (x : State). is_legal_in x c && true) same ∙ ap (λ (v : Bool). v && true) hold.doubted.legal
+      ap (λ (p : Profile). is_legal_at p s (c ∷ [])) profile ∙ ap (λ (x : State). is_legal_in x c && true) same ∙ ap (λ (v : Bool). v && true) hold.doubted.legal
 
   pub hold_stands : (doubt : Option Commit) → Hold A B j doubt s who → StandsOrDoubtful read A images s doubt who
   hold_stands None hold = λ x y has_x has_y. is_state hold.found hold.generation j.place s who x y (hold.used x has_x) (hold.other y (opens y has_y)) hold.state hold.identity

@@ -21,7 +21,8 @@ use Rattle.dkv_base.specs.Sound.{IsSound}
 use Rattle.dkv_base.specs.After.{after, is_legal, is_legal_in}
 use Rattle.dkv_base.specs.Trails.{commits, commits_of, out, takes, settles, weight, item_moment, greatest, is_stop, first_stop, has_room, may_stand, is_item_legal, items_legal_from, is_legal_trail}
 use Rattle.dkv_base.specs.Messages.{is_out, next, first_due}
-use Rattle.dkv_base.proofs.Told.{commits-push, out-push, same_id-true, same_id_self}
+use Rattle.dkv_base.proofs.LongerTrails.{commits-push, out-push}
+use Rattle.dkv_base.proofs.NamedMessages.{same_id-true, same_id_self}
 use Rattle.dkv_core.specs.Decisions.{commit_of, settled_by}
 use Rattle.dkv_core.specs.Settling.{out_after}
 use Rattle.dkv_core.specs.Runs.{no_limit}

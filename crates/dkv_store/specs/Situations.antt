@@ -20,7 +20,7 @@ use Rattle.dkv_store.specs.declared.answers.Done.{Done}
 use Rattle.dkv_store.specs.declared.answers.Done.TheVariants as done
 use Rattle.dkv_store.specs.declared.answers.Refusal.{Refusal}
 use Rattle.dkv_store.specs.declared.answers.Refusal.TheVariants as refusal
-use Rattle.dkv_store.specs.Stores.{Contents, IsRaised}
+use Rattle.dkv_store.specs.Stores.{Contents, IsRaised, effective_at}
 
 -- the store's state and trail, the same messages out, its greatest moment, and no limit of weight yet
 pub record StandsFor {D : Type 0} (s : Situation) (c : Contents D) : Type 0 where
@@ -60,7 +60,7 @@ abbrev pub AnswersCall : {D : Type 0} → Contents D → ℕ → ℕ → Call �
 AnswersCall old who at a (Ok d) new = Answers old who at (ask_of a) false (said (answer_of a d)) new
 AnswersCall old who at a (Err refusal.DiskFault) new = Answers old who at (ask_of a) true disk_fault new
 AnswersCall old who at a (Err (refusal.Stopped place)) new = Answers old who at (ask_of a) false (stopped place) new
-AnswersCall old who at a (Err refusal.NoMemory) new = IsRaised old new
+AnswersCall old who at a (Err refusal.NoMemory) new = IsRaised (effective_at old at) old new
 
 -- the reply to a take
 abbrev pub AnswersTake : {D : Type 0} → Contents D → ℕ → ℕ → Result Taken Refusal → Contents D → Type 0
@@ -68,4 +68,4 @@ AnswersTake old who at (Ok (taken.Leased m)) new = Answers old who at ask.Take f
 AnswersTake old who at (Ok (taken.Nothing next)) new = Answers old who at ask.Take false (said (answer.Nothing next)) new
 AnswersTake old who at (Err (refusal.Stopped place)) new = Answers old who at ask.Take false (stopped place) new
 AnswersTake old who at (Err refusal.DiskFault) new = ⊥
-AnswersTake old who at (Err refusal.NoMemory) new = IsRaised old new
+AnswersTake old who at (Err refusal.NoMemory) new = IsRaised (effective_at old at) old new

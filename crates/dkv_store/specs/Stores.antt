@@ -2,7 +2,7 @@
 --     Contents      the base and the items of the term, the core, the commit in doubt, the identity and the two disks, now and when the term began
 --     Keeps ..      what every store keeps
 --     IsDone, IsRefused      the answers of a commit, and what they leave
-use Rattle.std.specs.Prelude.{ℕ, ◌≡◌, ◌≢◌, ◌⊎◌, ◌+◌, ◌-◌, ◌^◌, ◌<◌, ◌≤◌, Bool, true, false, IsTrue, List, [], ◌∷◌, ◌++◌, max, count_by, Option, Some, None, is_some, Ok, Err, ◌||◌}
+use Rattle.std.specs.Prelude.{ℕ, replicate, ◌≡◌, ◌≢◌, ◌⊎◌, ◌+◌, ◌-◌, ◌^◌, ◌<◌, ◌≤◌, Bool, true, false, IsTrue, List, [], ◌∷◌, ◌++◌, max, count_by, Option, Some, None, is_some, Ok, Err, ◌||◌}
 use Rattle.dkv_base.specs.declared.types.AtomicWrite.{AtomicWrite}
 use Rattle.dkv_base.specs.declared.types.Call.{Call}
 use Rattle.dkv_base.specs.declared.types.Commit.{Commit}
@@ -27,7 +27,7 @@ use Rattle.dkv_journal.specs.declared.journal.Journal.{Journal}
 use Rattle.dkv_core.specs.Takes.{IsTaken}
 use Rattle.dkv_core.specs.declared.takes.Taken.{Taken}
 use Rattle.dkv_core.specs.declared.takes.Taken.TheVariants as taken
-use Rattle.dkv_io.specs.Disks.{Moves, PairImages, Only}
+use Rattle.dkv_io.specs.Disks.{Only}
 use Rattle.dkv_msgs.specs.Readings.{reads_atomic_write}
 use Rattle.dkv_files.specs.Files.{is_open}
 use Rattle.dkv_files.specs.Recovered as Recovered
@@ -94,6 +94,10 @@ pub record IsRaisedTo {D : Type 0} (t : ℕ) (old new : Contents D) : Type 0 whe
   pub trail : new.trail ≡ old.trail
   pub who : new.who ≡ old.who
 
+-- the same but for the greatest moment, which may have risen to this one, and the room
+abbrev pub IsRaised : {D : Type 0} → ℕ → Contents D → Contents D → Type 0
+IsRaised t old new = IsRaisedTo old.core.greatest old new ⊎ IsRaisedTo t old new
+
 -- the state and the trail have the commit
 pub record IsMade {D : Type 0} (t : ℕ) (c : Commit) (n : ℕ) (old new : Contents D) : Type 0 where
   pub number : n ≡ old.core.state.number + 1
@@ -129,7 +133,7 @@ IsDone old who t call (done.Limit passed) new = OfWrite call (λ w. write_limit 
 abbrev pub IsRefused : {D : Type 0} → Contents D → ℕ → ℕ → Call → Refusal → Contents D → Type 0
 IsRefused old who t call refusal.DiskFault new = IsTrue (is_legal_in old.core.state (commit_of who t call)) × IsDoubtful who t old new
 IsRefused old who t call (refusal.Stopped place) new = OfWrite call (λ w. (write_limit w ≡ None) × (first_stop old.trail ≡ Some place)) × IsRaisedTo t old new
-IsRefused old who t call refusal.NoMemory new = IsRaisedTo old.core.greatest old new ⊎ IsRaisedTo t old new
+IsRefused old who t call refusal.NoMemory new = IsRaised t old new
 
 -- a call that goes has a record that may be written
 abbrev pub IsShort : {D : Type 0} → Contents D → ℕ → ℕ → Call → Type 0
@@ -137,14 +141,32 @@ IsShort s who t call = IsTrue (is_legal_in s.core.state (commit_of who t call)) 
 
 -- ---- the other calls
 
+-- a term begins on this core and these disks: there is no item, and nothing is in doubt
+pub record Begins {D : Type 0} (c : Database) (me : Identity) (x y : D) (s : Contents D) : Type 0 where
+  pub base : s.base ≡ c.state
+  pub core : s.core ≡ c
+  pub trail : s.trail ≡ []
+  pub doubt : s.doubt ≡ None
+  pub who : s.who ≡ me
+  pub a_is : s.a ≡ x
+  pub b_is : s.b ≡ y
+  pub a_first : s.a_first ≡ x
+  pub b_first : s.b_first ≡ y
+
 -- a store of the new database over these disks, with an identity of zeros
 pub record IsFresh {D : Type 0} (a b : D) (s : Contents D) : Type 0 where
   pub base : s.base ≡ empty_state
   pub state : s.core.state ≡ empty_state
+  pub out : s.core.out ≡ []
+  pub greatest : s.core.greatest ≡ 0
   pub trail : s.trail ≡ []
   pub doubt : s.doubt ≡ None
+  pub id : s.who.id ≡ replicate 16 0
+  pub secret : s.who.secret ≡ replicate 32 0
   pub a_is : s.a ≡ a
   pub b_is : s.b ≡ b
+  pub a_first : s.a_first ≡ a
+  pub b_first : s.b_first ≡ b
 
 -- a message was taken, and its item joined the trail; or none is due
 abbrev pub IsTake : {D : Type 0} → Contents D → ℕ → ℕ → Taken → Contents D → Type 0

@@ -9,17 +9,17 @@ ghost use Rattle.dkv_files.specs.Crashes.{Identity, StatesMove, with_doubt, and_
 ghost use Rattle.dkv_store.specs.Held.{Hold, Guarded, MayAdd, AddMoves};
 ghost use Rattle.dkv_files.specs.Crashes.{read};
 
-use crate::pair::Pair;
+use crate::recall::Recall;
 use dkv_base::Commit;
+use dkv_files::Pair;
 use dkv_io::{Disk, Failed};
 use dkv_journal::{Journal, Laid};
-use std::snapshot::Snapshot;
 
 /// The files, where the records of the used one end, and the commit in doubt, which contracts alone see.
 #[derive(Drop)]
 pub struct Files<D> {
     pub journal: Journal,
-    pub doubt: Option<Snapshot<Commit>>,
+    pub doubt: Option<Recall<Commit>>,
     pub pair: Pair<D>,
 }
 
@@ -72,7 +72,7 @@ pub fn add<D: Disk>(files: &mut Files<D>, laid: &Laid, commit: &Commit) -> Resul
         return Ok(());
     };
     if files.journal.in_doubt {
-        files.doubt = Some(Snapshot::of(commit));
+        files.doubt = Some(Recall::of(commit));
     }
     Err(failed)
 }

@@ -1,39 +1,34 @@
-ghost use Rattle.std.specs.Prelude.{◌≡◌, ◌+◌, ◌-◌, ◌^◌, ◌<◌, ◌≤◌, ℕ, List, IsTrue, MatchResult, IfOk, OnOk, OnErr, Some, None, Err};
+// A store: what it is made of, how it begins, and what it hands back.
+ghost use Rattle.std.specs.Prelude.{◌≡◌, ◌≤◌, ℕ, List, [], IfOk, Some, None, false};
+ghost use Rattle.dkv_base.specs.Sound.{IsSound};
 ghost use Rattle.dkv_base.specs.declared.types.Profile.TheVariants.{Narrow};
-ghost use Rattle.dkv_base.specs.Profiles.{body_most};
-ghost use Rattle.dkv_base.specs.Limits.{read_limit};
-ghost use Rattle.dkv_base.specs.Replies.{read_reply};
-ghost use Rattle.dkv_base.specs.Spelling.{record_length, record_body};
-ghost use Rattle.dkv_core.specs.Decisions.{commit_of, may_ask, Goes};
-ghost use Rattle.dkv_journal.specs.Records.{first_layout, laid as laid_of};
-ghost use Rattle.dkv_msgs.specs.Readings.{reads_atomic_write};
-ghost use Rattle.dkv_record.specs.Records.{commit_of as read_as};
-ghost use Rattle.dkv_io.specs.Causes.{Rose};
-ghost use Rattle.dkv_io.specs.Disks.{Told, AnyBytes};
-ghost use Rattle.dkv_store.specs.declared.answers.Refusal.TheVariants as refusal;
+ghost use Rattle.dkv_files.specs.Crashes.{StandsOrDoubtful, read};
+ghost use Rattle.dkv_store.specs.Held.{Hold, Guarded};
+ghost use Rattle.dkv_store.specs.declared.trail.TheConstants.{MAX_TRAIL_BYTES};
 
-use crate::answers::{Done, Refusal};
 use crate::held::Files;
-use crate::keep::write;
-use crate::pair::Pair;
-use dkv_base::{Call, Commit, Entry, Item, NoMemory, ReadRange, Run};
-use dkv_core::{Core, Decided, Prepared, Taken};
+use crate::recall::Recall;
+use crate::trail::Trail;
+use dkv_base::{Item, NoMemory, Run};
+use dkv_core::Core;
+use dkv_files::Pair;
 use dkv_io::Disk;
-use dkv_journal::{Journal, Laid};
-use dkv_record::write_commit;
+use dkv_journal::Journal;
 use std::alloc::Global;
 use std::marker::Model;
-use std::snapshot::Snapshot;
+
+// The place of the first gate behind the header and an empty image, in bytes.
+const FIRST_GATE: u64 = 112;
 
 /// The database over two files: the core, the items of this term, and the files, which stand for the core's state at each moment.
 pub struct Store<D: Disk> {
-    core: Core,
-    base: Snapshot<Core>,
-    trail: Vec<Item>,
-    id: [u8; 16],
-    secret: [u8; 32],
-    files: Files<D>,
-    first: Snapshot<Pair<D>>,
+    pub(crate) core: Core,
+    base: Recall<Core>,
+    pub(crate) trail: Trail,
+    pub(crate) id: [u8; 16],
+    pub(crate) secret: [u8; 32],
+    pub(crate) files: Files<D>,
+    first: Recall<Pair<D>>,
 }
 
 impl<D: Disk> Model for Store<D> {
@@ -69,17 +64,74 @@ impl<D: Disk> Model for Store<D> {
 }
 
 impl<D: Disk> Store<D> {
-    ghost use Rattle.dkv_store.specs.Stores.{IsDone, IsRefused, IsShort, IsFresh, IsTake, IsOldOrNew, SameDisks, effective_at};
-    ghost use Rattle.dkv_files.specs.Crashes.{Identity, StandsOrDoubtful};
-    ghost use Rattle.dkv_store.specs.Held.{CommitMoves};
-    ghost use Rattle.dkv_files.specs.Crashes.{read};
+    ghost use Rattle.dkv_store.specs.Stores.{Begins, IsFresh};
 
-    /// Gives the two files back.
+    // A term begins on a core in which no message is out, and on files that stand for its state. Takes no memory.
+    pub(crate) fn begin(
+        alloc: Global,
+        core: Core,
+        id: [u8; 16],
+        secret: [u8; 32],
+        files: Files<D>,
+    ) -> Store<D>
+        requires sound { IsSound core.state }
+        requires none { core.out ≡ [] }
+        requires late { core.state.moment ≤ core.greatest }
+        requires sure { files.journal.in_doubt ≡ false }
+        requires undoubted { files.doubt ≡ None }
+        requires stands { (fa : List ℕ) → D.seen files.pair.a ≡ Some fa
+            → Hold (D.may_leave files.pair.a) (Guarded (D.seen files.pair.b) (D.may_leave files.pair.b))
+            files.journal None core.state (record { id = id; secret = secret; profile = Narrow }) }
+        ensures { Begins core (record { id = id; secret = secret; profile = Narrow })
+            files.pair.a files.pair.b result }
+    {
+        let base = Recall::of(&core);
+        let first = Recall::of(&files.pair);
+        let trail = Trail::new(alloc);
+        Store {
+            core,
+            base,
+            trail,
+            id,
+            secret,
+            files,
+            first,
+        }
+    }
+
+    /// A store of the new database with an identity of zeros, over disks that tell nothing. It goes on behind the empty image of
+    /// file a, and makes no disk call. `trail_limit` is in bytes, and bounds nothing yet.
+    pub fn fresh(
+        alloc: Global,
+        pair: Pair<D>,
+        trail_limit: u64,
+    ) -> Result<Store<D>, (Pair<D>, NoMemory)>
+        requires a_untold { D.seen pair.a ≡ None }
+        requires b_untold { D.seen pair.b ≡ None }
+        requires limit { trail_limit ≤ MAX_TRAIL_BYTES }
+        ensures { IfOk result (IsFresh pair.a pair.b) }
+    {
+        let _limit = trail_limit;
+        match Core::empty(alloc) {
+            Ok(core) => {
+                let files = Files {
+                    journal: Journal::at(FIRST_GATE),
+                    doubt: None,
+                    pair,
+                };
+                Ok(Store::begin(alloc, core, [0; 16], [0; 32], files))
+            }
+            Err(none) => Err((pair, none)),
+        }
+    }
+
+    /// Gives the two files back. Takes no memory.
     pub fn close(self) -> Pair<D>
         ensures a { result.a ≡ self.a }
         ensures b { result.b ≡ self.b }
         ensures stands { (fa fb : List ℕ) → D.seen self.a ≡ Some fa → D.seen self.b ≡ Some fb
-            → StandsOrDoubtful read (D.may_leave self.a) (D.may_leave self.b) self.core.state self.doubt self.who }
+            → StandsOrDoubtful read (D.may_leave self.a) (D.may_leave self.b)
+            self.core.state self.doubt self.who }
     {
         let Store {
             core: _,
@@ -93,169 +145,24 @@ impl<D: Disk> Store<D> {
         files.pair
     }
 
-    /// The entries of each range at the effective moment. Takes memory for copies of them.
-    pub fn read(
-        &mut self,
-        alloc: Global,
-        at: u64,
-        ranges: &[ReadRange],
-    ) -> Result<Run<Run<Entry>>, NoMemory>
-        requires unlimited { read_limit ranges.now ≡ None }
-        ensures reply { IfOk result (λ answer. answer ≡ read_reply self.old.core.state (effective_at self.old at) ranges.now) }
-        ensures content { self.new ≡ record self.old { core = record self.old.core { greatest = effective_at self.old at } } }
+    /// Gives the two files back, and the items of the term. Takes no memory.
+    pub fn end(self) -> (Pair<D>, Run<Item>)
+        ensures a { result.0.a ≡ self.a }
+        ensures b { result.0.b ≡ self.b }
+        ensures trail { result.1 ≡ self.trail }
+        ensures stands { (fa fb : List ℕ) → D.seen self.a ≡ Some fa → D.seen self.b ≡ Some fb
+            → StandsOrDoubtful read (D.may_leave self.a) (D.may_leave self.b)
+            self.core.state self.doubt self.who }
     {
-        let at = self.core.moment(at);
-        self.core.raise(at);
-        self.core.read(alloc, ranges, at)
+        let Store {
+            core: _,
+            base: _,
+            trail,
+            id: _,
+            secret: _,
+            files,
+            first: _,
+        } = self;
+        (files.pair, trail.into_run())
     }
-
-    /// A store of the new database with an identity of zeros, over disks that tell nothing. It goes on behind the empty image of
-    /// file a, and makes no disk call.
-    pub fn fresh(alloc: Global, pair: Pair<D>) -> Result<Store<D>, (Pair<D>, NoMemory)>
-        requires a_untold { D.seen pair.a ≡ None }
-        requires b_untold { D.seen pair.b ≡ None }
-        ensures { IfOk result (IsFresh pair.a pair.b) }
-    {
-        let first = Snapshot::of(&pair);
-        match Core::empty(alloc) {
-            Ok(core) => {
-                let base = Snapshot::of(&core);
-                Ok(Store {
-                    core,
-                    base,
-                    trail: Vec::new(alloc),
-                    id: [0; 16],
-                    secret: [0; 32],
-                    files: Files {
-                        journal: Journal::at(112),
-                        doubt: None,
-                        pair,
-                    },
-                    first,
-                })
-            }
-            Err(none) => Err((pair, none)),
-        }
-    }
-
-    /// Takes the message that is due first. Touches no disk.
-    pub fn take(&mut self, alloc: Global, who: u32, at: u64) -> Result<Taken, NoMemory>
-        ensures taken { IfOk result (λ taken. IsTake self.old who (effective_at self.old at) taken self.new) }
-        ensures disks { SameDisks self.old self.new }
-    {
-        let at = self.core.moment(at);
-        if self.trail.reserve(1).is_err() {
-            return Err(NoMemory);
-        }
-        let taken = self.core.take(alloc, at)?;
-        if let Taken::Leased(message) = &taken {
-            self.trail.push_reserved(Item::Took {
-                who,
-                at,
-                id: message.id,
-            });
-        }
-        Ok(taken)
-    }
-
-    /// Commits a call of the caller `who` at a moment in milliseconds since 1970. A gate in doubt is mended before anything is
-    /// written. After a fault the commit is in doubt or not on the disk, and a doubt joins the trail. Takes memory for the
-    /// record, all of it before the first disk call.
-    pub fn commit(&mut self, alloc: Global, who: u32, at: u64, call: Call) -> Result<Done, Refusal>
-        requires numbered { self.old.core.state.number < 2 ^ 63 - 1 }
-        requires out { IsTrue (may_ask self.old.core call) }
-        requires short { IsShort self.old who (effective_at self.old at) call }
-        ensures answer { MatchResult result
-            (λ d. IsDone self.old who (effective_at self.old at) call d self.new)
-            (λ r. IsRefused self.old who (effective_at self.old at) call r self.new) }
-        ensures moves { (fa fb : List ℕ) → D.seen self.old.a ≡ Some fa → D.seen self.old.b ≡ Some fb
-            → CommitMoves D.may_leave D.moment D.left_since self.old.who self.old.core.state self.old.doubt (commit_of who (effective_at self.old at) call) self.old.a self.old.b self.new.a self.new.b }
-        // All memory is taken before the first disk call.
-        ensures untouched { result ≡ Err refusal.NoMemory → self.new.a ≡ self.old.a }
-        ensures cause { result ≡ Err refusal.DiskFault → Rose (D.faults self.old.a) (D.faults self.new.a) }
-        // In doubt is the old commit or this one, if one is.
-        ensures doubted { result ≡ Err refusal.DiskFault → IsOldOrNew self.old.doubt (commit_of who (effective_at self.old at) call) self.new.doubt }
-        ensures told { Told AnyBytes (D.seen self.old.a) (D.seen self.new.a) }
-        ensures other { self.new.b ≡ self.old.b }
-        ensures first { (self.new.a_first ≡ self.old.a_first) × (self.new.b_first ≡ self.old.b_first) }
-    {
-        let at = self.core.moment(at);
-        match self.core.prepare(alloc, who, at, &call)? {
-            Decided::Limit(limit) => Ok(Done::Limit(limit)),
-            Decided::Fails(places) => {
-                self.core.raise(at);
-                Ok(Done::Fails(places))
-            }
-            Decided::NotU64 { index } => {
-                self.core.raise(at);
-                Ok(Done::NotU64 { index })
-            }
-            Decided::Goes(prepared) => self.make(alloc, who, at, call, prepared),
-        }
-    }
-
-    // Makes a commit that was prepared: on the disk, in the core and in the trail.
-    fn make(
-        &mut self,
-        alloc: Global,
-        who: u32,
-        at: u64,
-        call: Call,
-        prepared: Prepared,
-    ) -> Result<Done, Refusal>
-        requires goes { Goes self.old.core who at call prepared }
-        requires short { IsShort self.old who at call }
-        ensures answer { MatchResult result
-            (λ d. IsDone self.old who at call d self.new)
-            (λ r. IsRefused self.old who at call r self.new) }
-        ensures moves { (fa fb : List ℕ) → D.seen self.old.a ≡ Some fa → D.seen self.old.b ≡ Some fb
-            → CommitMoves D.may_leave D.moment D.left_since self.old.who self.old.core.state self.old.doubt (commit_of who at call) self.old.a self.old.b self.new.a self.new.b }
-        // All memory is taken before the first disk call.
-        ensures untouched { result ≡ Err refusal.NoMemory → self.new.a ≡ self.old.a }
-        ensures cause { result ≡ Err refusal.DiskFault → Rose (D.faults self.old.a) (D.faults self.new.a) }
-        ensures doubted { result ≡ Err refusal.DiskFault → IsOldOrNew self.old.doubt (commit_of who at call) self.new.doubt }
-        ensures told { Told AnyBytes (D.seen self.old.a) (D.seen self.new.a) }
-        ensures other { self.new.b ≡ self.old.b }
-        ensures first { (self.new.a_first ≡ self.old.a_first) × (self.new.b_first ≡ self.old.b_first) }
-    {
-        let commit = commit_for(who, at, call);
-        if self.trail.reserve(1).is_err() {
-            self.core.drop_prepared(prepared);
-            return Err(Refusal::NoMemory);
-        }
-        let Ok(laid) = lay(alloc, &commit) else {
-            self.core.drop_prepared(prepared);
-            return Err(Refusal::NoMemory);
-        };
-        if write(&mut self.files, &laid, &commit).is_err() {
-            self.core.drop_prepared(prepared);
-            self.core.raise(at);
-            self.trail.push_reserved(Item::Doubt { who, at });
-            return Err(Refusal::DiskFault);
-        }
-        let n = self.core.apply(prepared);
-        self.trail.push_reserved(Item::Made(commit));
-        Ok(Done::Committed { n })
-    }
-}
-
-// The commit that a call asks for.
-fn commit_for(who: u32, at: u64, call: Call) -> Commit
-    ensures { result ≡ commit_of who at call }
-{
-    match call {
-        Call::Write(write) => Commit::Wrote { who, at, write },
-        Call::Ack(id) => Commit::Acked { who, at, id },
-        Call::Fail(id) => Commit::Failed { who, at, id },
-    }
-}
-
-// The record of a commit, laid out. It reads as the commit again.
-fn lay(alloc: Global, commit: &Commit) -> Result<Laid, NoMemory>
-    requires { record_length commit.now ≤ body_most Narrow }
-    ensures spelled { IfOk result (λ l. l ≡ laid_of first_layout 0 (record_body commit.now)) }
-    ensures back { OnOk result (read_as reads_atomic_write (record_body commit.now) ≡ Some commit.now) }
-{
-    let body = write_commit(alloc, commit)?;
-    Journal::lay(alloc, body.as_slice())
 }

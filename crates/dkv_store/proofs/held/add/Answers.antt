@@ -14,19 +14,19 @@ pub returns-in_default-clause-moves : goal.returns-in_default-clause-moves
 returns-in_default-clause-moves g c s who fa fb told_a told_b hold may =
     let f = c.args.files.now in
     add_moves g.D.Disk.may_leave g.D.Disk.moment g.D.Disk.left_since g.met.D.Disk.counts_now f.pair.a c.append.new.disk f.pair.b (Guarded (g.D.Disk.seen f.pair.b) (g.D.Disk.may_leave f.pair.b)) f.journal s who (λ y has. (told_is (g.D.Disk.seen f.pair.b) fb told_b, has)) c.args.commit.now hold may
-    (c.append.ensures.leaves first_layout (record_body c.args.commit.now) fa c.requires.spelled told_a)
+    (c.append.ensures.leaves first_layout (record_body c.args.commit.now) c.requires.spelled fa told_a)
 
 pub returns-then-files-clause-moves : goal.returns-then-files-clause-moves
 returns-then-files-clause-moves g c s who fa fb told_a told_b hold may =
     let f = c.args.files.now in
     add_moves g.D.Disk.may_leave g.D.Disk.moment g.D.Disk.left_since g.met.D.Disk.counts_now f.pair.a c.append.new.disk f.pair.b (Guarded (g.D.Disk.seen f.pair.b) (g.D.Disk.may_leave f.pair.b)) f.journal s who (λ y has. (told_is (g.D.Disk.seen f.pair.b) fb told_b, has)) c.args.commit.now hold may
-    (c.append.ensures.leaves first_layout (record_body c.args.commit.now) fa c.requires.spelled told_a)
+    (c.append.ensures.leaves first_layout (record_body c.args.commit.now) c.requires.spelled fa told_a)
 
 pub returns-else-files-clause-moves : goal.returns-else-files-clause-moves
 returns-else-files-clause-moves g c s who fa fb told_a told_b hold may =
     let f = c.args.files.now in
     add_moves g.D.Disk.may_leave g.D.Disk.moment g.D.Disk.left_since g.met.D.Disk.counts_now f.pair.a c.append.new.disk f.pair.b (Guarded (g.D.Disk.seen f.pair.b) (g.D.Disk.may_leave f.pair.b)) f.journal s who (λ y has. (told_is (g.D.Disk.seen f.pair.b) fb told_b, has)) c.args.commit.now hold may
-    (c.append.ensures.leaves first_layout (record_body c.args.commit.now) fa c.requires.spelled told_a)
+    (c.append.ensures.leaves first_layout (record_body c.args.commit.now) c.requires.spelled fa told_a)
 
 pub returns-in_default-clause-holds : goal.returns-in_default-clause-holds
 returns-in_default-clause-holds g c s who fa told_a hold may =
@@ -34,7 +34,7 @@ returns-in_default-clause-holds g c s who fa told_a hold may =
     let body = record_body c.args.commit.now in
     let now = g.met.D.Disk.reads_as f.pair.a fa told_a in
     let shut = c.requires.closed fa told_a fa now in
-    let rest = c.in_default.ensures.done first_layout body fa c.requires.spelled told_a in
+    let rest = c.in_default.ensures.done first_layout body c.requires.spelled fa told_a in
     let is = c.in_default.ensures.place in
     let short = subst IsShort rest.told (g.met.D.Disk.short c.append.new.disk) in
     let place = ap (λ (j : Journal). j.place) is ∙ new_place f.journal.place body c.args.laid.now fa (closed_within f.journal.place fa shut) c.requires.spelled short in
@@ -46,7 +46,7 @@ returns-then-files-clause-holds g c s who fa told_a hold may =
     let f = c.args.files.now in
     let body = record_body c.args.commit.now in
     let now = g.met.D.Disk.reads_as f.pair.a fa told_a in
-    let doubted = c.in-Err.ensures.doubted first_layout body fa c.requires.spelled told_a c.if-files.true in
+    let doubted = c.in-Err.ensures.doubted first_layout body c.requires.spelled fa told_a c.if-files.true in
     subst (λ (k : Commit). Hold (g.D.Disk.may_leave c.append.new.disk) (Guarded (g.D.Disk.seen f.pair.b) (g.D.Disk.may_leave f.pair.b)) c.append.new.self (Some k) s who) (sym c.of.ensures)
     (add_doubted g.D.Disk.may_leave g.D.Disk.moment g.D.Disk.left_since g.met.D.Disk.counts_now f.pair.a c.append.new.disk f.pair.b (Guarded (g.D.Disk.seen f.pair.b) (g.D.Disk.may_leave f.pair.b)) f.journal s who
     c.args.commit.now fa c.append.new.self hold may now doubted c.in-Err.ensures.stays c.if-files.true)

@@ -10,7 +10,7 @@ use Rattle.dkv_core.specs.Decisions.{commit_of, Goes}
 use Rattle.dkv_files.specs.Crashes.{Identity, and_then}
 use Rattle.dkv_store.specs.Held.{CommitMoves, MayAdd, Hold, Guarded}
 use Rattle.dkv_store.specs.Stores.{Contents, Keeps, IsOldOrNew}
-use Rattle.std.specs.declared.snapshot.Snapshot.{Snapshot}
+use Rattle.dkv_store.specs.declared.recall.Recall.{Recall}
 use Rattle.dkv_base.specs.declared.types.Item.{Item}
 use Rattle.dkv_base.specs.declared.types.Item.TheVariants as item
 use Rattle.dkv_io.proofs.Seen.{was_told}
@@ -71,7 +71,7 @@ returns-clause-moves g c =
     subst (λ (m : Commit). CommitMoves g.D.Disk.may_leave g.D.Disk.moment g.D.Disk.left_since who i.core.state (option_map (λ d. d.value) i.files.doubt) m i.files.pair.a i.files.pair.b n.a n.b) is
     (c.write.ensures.moves i.core.state who fa fb told_a told_b (c.self.invariant.stands fa told_a) may))
 
-named_on : (v : Bool) (o : Option (Snapshot Commit)) → v ≡ is_some o → v ≡ is_some (option_map (λ d. d.value) o)
+named_on : (v : Bool) (o : Option (Recall Commit)) → v ≡ is_some o → v ≡ is_some (option_map (λ d. d.value) o)
 named_on v None is = is
 named_on v (Some d) is = is
 
@@ -89,13 +89,13 @@ invariant_of-self-then-is_err-2 g c =
       legal = subst (λ (m : Commit). IsTrue (is_legal_in i.core.state m)) (sym is) goes.legal;
     } in
     let failed = sym c.is_err-2.ensures.value ∙ c.if-is_err-2.true in
-    kept_doubt g.D.Disk.seen g.D.Disk.may_leave g.D.Disk.faults i.files.journal n.journal i.base.value.state i.core c.raise.new.self i.trail.items c.push_reserved.new.self.items
+    kept_doubt g.D.Disk.seen g.D.Disk.may_leave g.D.Disk.faults i.files.journal n.journal i.base.value.state i.core c.raise.new.self i.trail.items c.add.new.self.items
     (option_map (λ d. d.value) i.files.doubt) (option_map (λ d. d.value) n.doubt) me i.files.pair.a n.pair.a i.files.pair.b n.pair.b i.first.value.a i.first.value.b c.self.invariant
     c.args.who c.args.at c.args.call c.args.prepared goes (named_on _ n.doubt c.write.ensures.named) c.write.ensures.other
     (ap (λ w. w.state) c.raise.ensures ∙ ap (λ w. w.state) c.drop_prepared-then-is_err-2.ensures)
     (ap (λ w. w.out) c.raise.ensures ∙ ap (λ w. w.out) c.drop_prepared-then-is_err-2.ensures)
     (ap (λ w. w.greatest) c.raise.ensures)
-    (c.push_reserved.ensures.items ∙ ap (λ (l : List Item). l ++ item.Doubt c.args.who c.args.at ∷ []) c.reserve.ensures.items)
+    (c.add.ensures.items ∙ ap (λ (l : List Item). l ++ item.Doubt c.args.who c.args.at ∷ []) c.reserve.ensures.items)
     (failed_of c.write.result _ c.write.ensures.cause.failed failed)
     (λ fa told.
     let was = was_told _ _ _ fa told c.write.ensures.told in
@@ -115,11 +115,11 @@ invariant_of-self-2 g c =
       legal = subst (λ (m : Commit). IsTrue (is_legal_in i.core.state m)) (sym is) goes.legal;
     } in
     let went = sym c.is_err-2.ensures.value ∙ c.if-is_err-2.false in
-    kept_made g.D.Disk.seen g.D.Disk.may_leave g.D.Disk.faults i.files.journal n.journal i.base.value.state i.core c.apply-n.new.self i.trail.items c.push_reserved-2.new.self.items
+    kept_made g.D.Disk.seen g.D.Disk.may_leave g.D.Disk.faults i.files.journal n.journal i.base.value.state i.core c.apply-n.new.self i.trail.items c.add-2.new.self.items
     (option_map (λ d. d.value) i.files.doubt) (option_map (λ d. d.value) n.doubt) me i.files.pair.a n.pair.a i.files.pair.b n.pair.b i.first.value.a i.first.value.b c.self.invariant
     c.args.who c.args.at c.args.call c.args.prepared goes (named_on _ n.doubt c.write.ensures.named) c.write.ensures.other
     c.apply-n.ensures.state c.apply-n.ensures.out c.apply-n.ensures.moment
-    (c.push_reserved-2.ensures.items ∙ (λ z. c.reserve.ensures.items z ++ item.Made (is z) ∷ []))
+    (c.add-2.ensures.items ∙ (λ z. c.reserve.ensures.items z ++ item.Made (is z) ∷ []))
     c.write.ensures.cause.later
     (λ fa told.
     let was = was_told _ _ _ fa told c.write.ensures.told in

@@ -14,6 +14,6 @@ invariant_of-self-in-Leased g c =
     let i = c.self.inside in
     let me : Identity = record { id = i.id; secret = i.secret; profile = Narrow } in
     let is = subst (λ (r : Taken). IsTaken i.core c.moment-at.result r c.take.new.self) c.in-Leased.is c.in_ok-taken.ensures.taken in
-    kept_took g.D.Disk.seen g.D.Disk.may_leave g.D.Disk.faults i.files.journal i.base.value.state i.core c.take.new.self i.trail.items c.push_reserved.new.self.items (option_map (λ d. d.value) i.files.doubt) me
+    kept_took g.D.Disk.seen g.D.Disk.may_leave g.D.Disk.faults i.files.journal i.base.value.state i.core c.take.new.self i.trail.items c.add.new.self.items (option_map (λ d. d.value) i.files.doubt) me
     i.files.pair.a i.files.pair.b i.first.value.a i.first.value.b c.self.invariant c.args.who c.moment-at.result c.in-Leased.message c.moment-at.ensures.effective.late is
-    (c.push_reserved.ensures.items ∙ ap (λ (l : List Item). l ++ item.Took c.args.who c.moment-at.result c.in-Leased.message.id ∷ []) c.reserve.ensures.items)
+    (c.add.ensures.items ∙ ap (λ (l : List Item). l ++ item.Took c.args.who c.moment-at.result c.in-Leased.message.id ∷ []) c.reserve.ensures.items)

@@ -1,0 +1,144 @@
+// Commits: on the disk first, then in the core and in the trail.
+ghost use Rattle.std.specs.Prelude.{◌≡◌, ◌+◌, ◌-◌, ◌^◌, ◌<◌, ◌≤◌, ℕ, List, IsTrue, MatchResult, IfOk, OnOk, OnErr, Some, Err};
+ghost use Rattle.dkv_base.specs.declared.types.Item.TheVariants.{Made};
+ghost use Rattle.dkv_base.specs.declared.types.Profile.TheVariants.{Narrow};
+ghost use Rattle.dkv_base.specs.Profiles.{body_most};
+ghost use Rattle.dkv_base.specs.Spelling.{record_length, record_body};
+ghost use Rattle.dkv_base.specs.Trails.{item_weight};
+ghost use Rattle.dkv_core.specs.Decisions.{commit_of, may_ask, Goes};
+ghost use Rattle.dkv_journal.specs.Records.{first_layout, laid as laid_of};
+ghost use Rattle.dkv_msgs.specs.Readings.{reads_atomic_write};
+ghost use Rattle.dkv_record.specs.Records.{commit_of as read_as};
+ghost use Rattle.dkv_io.specs.Causes.{Rose};
+ghost use Rattle.dkv_io.specs.Disks.{Told, AnyBytes};
+ghost use Rattle.dkv_store.specs.Stores.{IsDone, IsRefused, IsShort, IsOldOrNew, effective_at};
+ghost use Rattle.dkv_store.specs.Held.{CommitMoves};
+ghost use Rattle.dkv_store.specs.declared.answers.Refusal.TheVariants as refusal;
+
+use crate::answers::{Done, Refusal};
+use crate::keep::write;
+use crate::store::Store;
+use crate::trail::ITEM_WEIGHT;
+use dkv_base::{Call, Commit, Item, NoMemory};
+use dkv_core::{Decided, Prepared};
+use dkv_io::Disk;
+use dkv_journal::{Journal, Laid};
+use dkv_record::write_commit;
+use std::alloc::Global;
+
+impl<D: Disk> Store<D> {
+    /// Commits a call of the caller `who` at a moment in milliseconds since 1970. A gate in doubt is mended before anything is
+    /// written. After a fault the commit is in doubt or not on the disk, and a doubt joins the trail. Takes memory for the
+    /// record, all of it before the first disk call.
+    pub fn commit(&mut self, alloc: Global, who: u32, at: u64, call: Call) -> Result<Done, Refusal>
+        requires numbered { self.old.core.state.number < 2 ^ 63 - 1 }
+        requires out { IsTrue (may_ask self.old.core call) }
+        requires short { IsShort self.old who (effective_at self.old at) call }
+        ensures answer { MatchResult result
+            (λ d. IsDone self.old who (effective_at self.old at) call d self.new)
+            (λ r. IsRefused self.old who (effective_at self.old at) call r self.new) }
+        ensures moves { (fa fb : List ℕ) → D.seen self.old.a ≡ Some fa → D.seen self.old.b ≡ Some fb
+            → CommitMoves D.may_leave D.moment D.left_since self.old.who self.old.core.state self.old.doubt (commit_of who (effective_at self.old at) call) self.old.a self.old.b self.new.a self.new.b }
+        // All memory is taken before the first disk call.
+        ensures untouched { result ≡ Err refusal.NoMemory → self.new.a ≡ self.old.a }
+        ensures cause { result ≡ Err refusal.DiskFault → Rose (D.faults self.old.a) (D.faults self.new.a) }
+        // In doubt is the old commit or this one, if one is.
+        ensures doubted { result ≡ Err refusal.DiskFault → IsOldOrNew self.old.doubt (commit_of who (effective_at self.old at) call) self.new.doubt }
+        ensures told { Told AnyBytes (D.seen self.old.a) (D.seen self.new.a) }
+        ensures other { self.new.b ≡ self.old.b }
+        ensures first { (self.new.a_first ≡ self.old.a_first) × (self.new.b_first ≡ self.old.b_first) }
+    {
+        let at = self.core.moment(at);
+        match self.core.prepare(alloc, who, at, &call)? {
+            Decided::Limit(limit) => Ok(Done::Limit(limit)),
+            Decided::Fails(places) => {
+                self.core.raise(at);
+                Ok(Done::Fails(places))
+            }
+            Decided::NotU64 { index } => {
+                self.core.raise(at);
+                Ok(Done::NotU64 { index })
+            }
+            Decided::Goes(prepared) => self.make(alloc, who, at, call, prepared),
+        }
+    }
+
+    // Makes a commit that was prepared: on the disk, in the core and in the trail.
+    fn make(
+        &mut self,
+        alloc: Global,
+        who: u32,
+        at: u64,
+        call: Call,
+        prepared: Prepared,
+    ) -> Result<Done, Refusal>
+        requires goes { Goes self.old.core who at call prepared }
+        requires short { IsShort self.old who at call }
+        ensures answer { MatchResult result
+            (λ d. IsDone self.old who at call d self.new)
+            (λ r. IsRefused self.old who at call r self.new) }
+        ensures moves { (fa fb : List ℕ) → D.seen self.old.a ≡ Some fa → D.seen self.old.b ≡ Some fb
+            → CommitMoves D.may_leave D.moment D.left_since self.old.who self.old.core.state self.old.doubt (commit_of who at call) self.old.a self.old.b self.new.a self.new.b }
+        // All memory is taken before the first disk call.
+        ensures untouched { result ≡ Err refusal.NoMemory → self.new.a ≡ self.old.a }
+        ensures cause { result ≡ Err refusal.DiskFault → Rose (D.faults self.old.a) (D.faults self.new.a) }
+        ensures doubted { result ≡ Err refusal.DiskFault → IsOldOrNew self.old.doubt (commit_of who at call) self.new.doubt }
+        ensures told { Told AnyBytes (D.seen self.old.a) (D.seen self.new.a) }
+        ensures other { self.new.b ≡ self.old.b }
+        ensures first { (self.new.a_first ≡ self.old.a_first) × (self.new.b_first ≡ self.old.b_first) }
+    {
+        let commit = commit_for(who, at, call);
+        if self.trail.reserve(1).is_err() {
+            self.core.drop_prepared(prepared);
+            return Err(Refusal::NoMemory);
+        }
+        let Ok((laid, weight)) = lay(alloc, &commit) else {
+            self.core.drop_prepared(prepared);
+            return Err(Refusal::NoMemory);
+        };
+        if write(&mut self.files, &laid, &commit).is_err() {
+            self.core.drop_prepared(prepared);
+            self.core.raise(at);
+            self.trail.add(Item::Doubt { who, at }, ITEM_WEIGHT);
+            return Err(Refusal::DiskFault);
+        }
+        let n = self.core.apply(prepared);
+        self.trail.add(Item::Made(commit), weight);
+        Ok(Done::Committed { n })
+    }
+}
+
+// The commit that a call asks for.
+fn commit_for(who: u32, at: u64, call: Call) -> Commit
+    ensures { result ≡ commit_of who at call }
+{
+    match call {
+        Call::Write(write) => Commit::Wrote { who, at, write },
+        Call::Ack(id) => Commit::Acked { who, at, id },
+        Call::Fail(id) => Commit::Failed { who, at, id },
+    }
+}
+
+// The record of a commit, laid out, and what the commit weighs. The record reads as the commit again.
+fn lay(alloc: Global, commit: &Commit) -> Result<(Laid, u64), NoMemory>
+    requires { record_length commit.now ≤ body_most Narrow }
+    ensures spelled { IfOk result (λ l. l.0 ≡ laid_of first_layout 0 (record_body commit.now)) }
+    ensures weighed { IfOk result (λ l. l.1 ≡ item_weight (Made commit.now)) }
+    ensures back { OnOk result (read_as reads_atomic_write (record_body commit.now) ≡ Some commit.now) }
+{
+    let body = write_commit(alloc, commit)?;
+    let laid = Journal::lay(alloc, body.as_slice())?;
+    Ok((laid, weight_of(commit, body.len() as u64)))
+}
+
+// What a commit weighs whose record's body has this length.
+fn weight_of(commit: &Commit, length: u64) -> u64
+    requires length { length ≡ record_length commit.now }
+    requires short { length ≤ body_most Narrow }
+    ensures { result ≡ item_weight (Made commit.now) }
+{
+    match commit {
+        Commit::Wrote { .. } => ITEM_WEIGHT + length,
+        Commit::Acked { .. } | Commit::Failed { .. } => ITEM_WEIGHT,
+    }
+}
