@@ -3,6 +3,7 @@ mod Clears
 pub mod Fresh
 pub mod Fronts
 pub mod Heads
+pub mod Plain
 pub mod Resting
 pub mod Shut
 pub mod Used

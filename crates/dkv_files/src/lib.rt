@@ -20,3 +20,6 @@ pub use header::{HeadState, is_new, read_head};
 pub use laws::{files_are_read, newer_is_used};
 pub use pair::Pair;
 pub use rest::{both_to_rest, bring_to_rest, is_one_open};
+
+#[cfg(test)]
+mod tests;

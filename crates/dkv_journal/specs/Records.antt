@@ -51,6 +51,11 @@ records l p [] = CLOSED_GATE ∷ []
 records l p (body ∷ bodies) =
     OPEN_GATE ∷ to_le_bytes w32 (length body) ++ record_digest l p body ++ body ++ records l (p + record_size l body) bodies
 
+-- the place behind records of these bodies from gate p on
+abbrev pub place_after : Layout → ℕ → List (List ℕ) → ℕ
+place_after l p [] = p
+place_after l p (body ∷ bodies) = place_after l (p + record_size l body) bodies
+
 -- ---- reading
 
 -- how the records end: at a closed gate, or at one that is damaged

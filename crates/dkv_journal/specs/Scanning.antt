@@ -1,6 +1,6 @@
 -- What the calls of a scan answer, where the disk tells its file.
 use Rattle.std.specs.Prelude.{ℕ, ◌≡◌, ◌+◌, ◌<◌, ◌≤◌, false, IsTrue, List, length, take, drop, ⊤, Result, Ok, Err, Option, Some, None}
-use Rattle.dkv_journal.specs.Records.{at_closed, at_damaged, ends, with_body, first_layout, record_size, told_length, is_open_at, is_closed_at, scanned_at}
+use Rattle.dkv_journal.specs.Records.{at_closed, at_damaged, ends, with_body, first_layout, record_size, place_after, told_length, is_open_at, is_closed_at, scanned_at}
 use Rattle.dkv_journal.specs.declared.journal.Journal.{Journal}
 use Rattle.dkv_journal.specs.declared.scan.Gate.{Gate}
 use Rattle.dkv_journal.specs.declared.scan.Gate.TheVariants as gate
@@ -38,3 +38,10 @@ IsScan p file (Ok x) = (scanned_at first_layout p file ≡ record { bodies = x.0
 IsScan p file (Err (refusal.Damaged at before)) = scanned_at first_layout p file ≡ record { bodies = before; place = at; end = at_damaged }
 IsScan p file (Err refusal.DiskFault) = ⊤
 IsScan p file (Err refusal.NoMemory) = ⊤
+
+-- the bodies stand one after the other from p on up to the last gate, which is sure
+abbrev pub EndsBehind : ℕ → Result (List (List ℕ) × Journal) ScanRefusal → Type 0
+EndsBehind p (Ok x) = (place_after first_layout p x.0 ≡ x.1.place) × (x.1.in_doubt ≡ false)
+EndsBehind p (Err (refusal.Damaged at before)) = place_after first_layout p before ≡ at
+EndsBehind p (Err refusal.DiskFault) = ⊤
+EndsBehind p (Err refusal.NoMemory) = ⊤

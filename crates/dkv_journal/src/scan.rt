@@ -5,7 +5,7 @@ ghost use Rattle.dkv_base.specs.Profiles.{body_most};
 ghost use Rattle.dkv_io.specs.Causes.{HasCause, Rose};
 ghost use Rattle.dkv_io.specs.Disks.{LeavesOnly};
 ghost use Rattle.dkv_journal.specs.Crashes.{WhereTold};
-ghost use Rattle.dkv_journal.specs.Scanning.{IsGate, IsNext, IsWithin, IsScan, IsBodyAt};
+ghost use Rattle.dkv_journal.specs.Scanning.{IsGate, IsNext, IsWithin, IsScan, IsBodyAt, EndsBehind};
 ghost use Rattle.dkv_journal.specs.declared.scan.Missed.TheVariants as missed;
 ghost use Rattle.dkv_journal.specs.declared.scan.ScanRefusal.TheVariants as refusal;
 
@@ -153,6 +153,7 @@ impl Journal {
         place: u64,
     ) -> Result<(Run<Bytes>, Journal), ScanRefusal>
         ensures scanned { WhereTold (D.seen disk.old) (λ file. IsScan place file result) }
+        ensures ends { EndsBehind place result }
         ensures seen { D.seen disk.new ≡ D.seen disk.old }
         ensures leaves { LeavesOnly D.moment D.left_since
             disk.old disk.new (D.may_leave disk.old) }

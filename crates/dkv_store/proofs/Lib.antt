@@ -2,6 +2,8 @@ pub mod Holding
 pub mod Keeping
 pub mod Leases
 pub mod Moving
+pub mod Opened
+pub mod Replaying
 pub mod Results
 pub mod Standing
 pub mod Trailing

@@ -4,3 +4,4 @@ pub mod Making
 pub mod Situations
 pub mod Terms
 pub mod Trails
+pub mod Opening

@@ -9,8 +9,11 @@ mod calls;
 mod commits;
 mod held;
 mod keep;
+mod looks;
+mod opening;
 mod reads;
 mod recall;
+mod replay;
 mod store;
 mod takes;
 mod tells;
@@ -20,7 +23,11 @@ pub use again::remake;
 pub use answers::{Done, OpenRefusal, Refusal};
 pub use held::{Files, add, mend};
 pub use keep::write;
+pub use opening::open_store;
 pub use recall::Recall;
 pub use store::Store;
 pub use tells::{Counts, Identity};
 pub use trail::MAX_TRAIL_BYTES;
+
+#[cfg(test)]
+mod opening_tests;
