@@ -1,9 +1,9 @@
 //! Keys as lists of typed parts, and the versionstamps of commits.
 //!
 //! A key is the spellings of its parts, one after the other, and the byte order of keys is the order of their part
-//! lists by value. The layer above may rely on: `encode` writes just that spelling, `decode` reads it back and refuses
-//! everything else at the first place where no part begins, and the two bounds of `prefix_range` hold just the keys
-//! that have more parts behind the prefix.
+//! lists by value. The layer above may rely on: `compare` tells that byte order, `encode` writes just that spelling,
+//! `decode` reads it back and refuses everything else at the first place where no part begins, and the two bounds of
+//! `prefix_range` hold just the keys that have more parts behind the prefix.
 #![tactic(auto)]
 
 pub mod codes;

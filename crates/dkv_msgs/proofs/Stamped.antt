@@ -1,5 +1,5 @@
 -- The reply to a write that was made, byte by byte.
-use Rattle.std.proofs.Common.{◌≡◌, ℕ, List, ◌∷◌, refl}
+use Rattle.std.proofs.Common.{◌≡◌, ℕ, ◌∷◌, refl}
 use Rattle.dkv_base.specs.Protobuf.{groups, varint}
 use Rattle.dkv_base.specs.Stamps.{stamp}
 use Rattle.dkv_msgs.specs.Outputs.{written_output}
