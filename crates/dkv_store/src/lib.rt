@@ -8,6 +8,7 @@ mod answers;
 mod commits;
 mod held;
 mod keep;
+mod laid;
 mod reads;
 mod recall;
 mod store;
@@ -23,3 +24,6 @@ pub use recall::Recall;
 pub use store::Store;
 pub use tells::{Counts, Identity};
 pub use trail::MAX_TRAIL_BYTES;
+
+#[cfg(test)]
+mod tests;
