@@ -1,6 +1,6 @@
 -- What the calls of a store answer is what the definitions answer in each situation of the store.
-use Rattle.std.proofs.Common.{◌≡◌, ℕ, ◌+◌, Bool, true, false, cond, List, [], ◌∷◌, ◌++◌, Option, Some, None, Result, Ok, Err, refl, sym, ap, subst, ◌∙◌}
-use Rattle.std.specs.Prelude.{max, not, ◌&&◌, MatchResult, IfOk, IfErr, OnErr}
+use Rattle.std.proofs.Common.{◌≡◌, ℕ, ◌+◌, Bool, true, false, cond, List, [], ◌∷◌, ◌++◌, Option, Some, None, Result, Ok, Err, inl, refl, sym, ap, subst, ◌∙◌}
+use Rattle.std.specs.Prelude.{max, not, ◌&&◌, MatchResult, IfOk, ⊤}
 use Rattle.dkv_base.specs.declared.types.Answer.{Answer}
 use Rattle.dkv_base.specs.declared.types.Answer.TheVariants as answer
 use Rattle.dkv_base.specs.declared.types.Ask.{Ask}
@@ -219,10 +219,10 @@ module _ {D : Type 0} (old new : Contents D) (none : first_stop old.trail ≡ No
       unmarked who at ask.Take (answer.Nothing moment) (take_nothing old.core new.core who (effective_at old at) moment is.0.0 is.0.1 is.0.2) (λ s stands. stands.trail ∙ sym is.1)
 
   -- a take
-  pub take_answers : (who at : ℕ) (r : Result Taken Refusal) → IfOk r (λ x. IsTake old who (effective_at old at) x new) → OnErr r (IsRaised (effective_at old at) old new) → IfErr r (λ e. e ≡ refusal.NoMemory)
+  pub take_answers : (who at : ℕ) (r : Result Taken Refusal) → IfOk r (λ x. IsTake old who (effective_at old at) x new) → MatchResult r (λ x. ⊤) (λ e. (e ≡ refusal.NoMemory) × IsRaisedTo old.core.greatest old new)
       → AnswersTake old who at r new
-  take_answers who at (Ok (taken.Leased m)) is short cause = leased_answers who at m is
-  take_answers who at (Ok (taken.Nothing next)) is short cause = nothing_answers who at next is
-  take_answers who at (Err refusal.DiskFault) is short cause = absurd (cc cause)
-  take_answers who at (Err (refusal.Stopped place)) is short cause = absurd (cc cause)
-  take_answers who at (Err refusal.NoMemory) is short cause = short
+  take_answers who at (Ok (taken.Leased m)) is short = leased_answers who at m is
+  take_answers who at (Ok (taken.Nothing next)) is short = nothing_answers who at next is
+  take_answers who at (Err refusal.DiskFault) is short = absurd (cc short.0)
+  take_answers who at (Err (refusal.Stopped place)) is short = absurd (cc short.0)
+  take_answers who at (Err refusal.NoMemory) is short = inl short.1

@@ -7,6 +7,7 @@ use Rattle.dkv_base.specs.declared.types.Call.{Call}
 use Rattle.dkv_base.specs.declared.types.Call.TheVariants as call
 use Rattle.dkv_base.specs.declared.types.Commit.{Commit}
 use Rattle.dkv_base.specs.declared.types.Item.{Item}
+use Rattle.dkv_base.specs.declared.types.MsgId.{MsgId}
 use Rattle.dkv_base.specs.declared.types.Item.TheVariants as item
 use Rattle.dkv_base.specs.State.{State}
 use Rattle.dkv_base.specs.Messages.{moment_of, is_out, next}
@@ -36,12 +37,12 @@ made_at who t (call.Ack id) = refl
 made_at who t (call.Fail id) = refl
 
 module _ {D : Type 0} (sees : D → Option (List ℕ)) (images : D → List ℕ → Type 0) (faults : D → ℕ) (j j_end : Journal)
-    (base : State) (core core_end : Database) (trail trail_end : List Item) (doubt doubt_end : Option Commit) (me : Identity) (a a_end b b_end a_first b_first : D)
-    (kept : Keeps sees images faults j (record { base = base; core = core; trail = trail; doubt = doubt; who = me; a = a; b = b; a_first = a_first; b_first = b_first }))
+    (base : State) (core core_end : Database) (trail trail_end : List Item) (lost lost_end : List MsgId) (doubt doubt_end : Option Commit) (me : Identity) (a a_end b b_end a_first b_first : D)
+    (kept : Keeps sees images faults j (record { base = base; core = core; trail = trail; roomless = lost; doubt = doubt; who = me; a = a; b = b; a_first = a_first; b_first = b_first }))
     (who t : ℕ) (asked : Call) (p : Change) (goes : Goes core who t asked p)
     (named : j_end.in_doubt ≡ is_some doubt_end) (other : b_end ≡ b) where
   abbrev Kept : List Item → Type 0
-  Kept items = Keeps sees images faults j_end (record { base = base; core = core_end; trail = items; doubt = doubt_end; who = me; a = a_end; b = b_end; a_first = a_first; b_first = b_first })
+  Kept items = Keeps sees images faults j_end (record { base = base; core = core_end; trail = items; roomless = lost_end; doubt = doubt_end; who = me; a = a_end; b = b_end; a_first = a_first; b_first = b_first })
 
   late : greatest base trail ≤ t
   late = omega (arith, kept.moments, goes.ready.moment.late, goes.moment)
@@ -89,10 +90,10 @@ module _ {D : Type 0} (sees : D → Option (List ℕ)) (images : D → List ℕ 
 
 -- after a take its item stands in the trail
 module _ {D : Type 0} (sees : D → Option (List ℕ)) (images : D → List ℕ → Type 0) (faults : D → ℕ) (j : Journal)
-    (base : State) (core core_end : Database) (trail trail_end : List Item) (doubt : Option Commit) (me : Identity) (a b a_first b_first : D)
-    (kept : Keeps sees images faults j (record { base = base; core = core; trail = trail; doubt = doubt; who = me; a = a; b = b; a_first = a_first; b_first = b_first })) where
+    (base : State) (core core_end : Database) (trail trail_end : List Item) (lost lost_end : List MsgId) (doubt : Option Commit) (me : Identity) (a b a_first b_first : D)
+    (kept : Keeps sees images faults j (record { base = base; core = core; trail = trail; roomless = lost; doubt = doubt; who = me; a = a; b = b; a_first = a_first; b_first = b_first })) where
   abbrev Taking : List Item → Type 0
-  Taking items = Keeps sees images faults j (record { base = base; core = core_end; trail = items; doubt = doubt; who = me; a = a; b = b; a_first = a_first; b_first = b_first })
+  Taking items = Keeps sees images faults j (record { base = base; core = core_end; trail = items; roomless = lost_end; doubt = doubt; who = me; a = a; b = b; a_first = a_first; b_first = b_first })
 
   pub kept_took : (who t : ℕ) (m : Message) → core.greatest ≤ t → IsTaken core t (taken.Leased m) core_end → trail_end ≡ trail ++ item.Took who t m.id ∷ [] → Taking trail_end
   kept_took who t m late is trail_is =

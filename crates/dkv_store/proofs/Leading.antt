@@ -1,6 +1,6 @@
 -- Each call of a store leads on within its term.
 use Rattle.std.proofs.Common.{◌≡◌, ◌⊎◌, Result, Ok, Err, inl, inr, append_assoc, lit<, ℕ, zero, ◌+◌, ◌≤◌, List, [], ◌∷◌, ◌++◌, length, take, Option, Some, None, refl, sym, ap, subst, ◌∙◌, arith}
-use Rattle.std.specs.Prelude.{IsTrue, max, MatchResult, IfOk, OnErr}
+use Rattle.std.specs.Prelude.{IsTrue, max, MatchResult, IfOk, ⊤}
 use Rattle.std.specs.Option.{option_map_or}
 use Rattle.std.specs.List.{Contains}
 use Rattle.std.proofs.lemmas.List.{append-nil, take-append-le, length-append}
@@ -116,9 +116,9 @@ module _ {D : Type 0} (seen : D → Option (List ℕ)) (images : D → List ℕ 
           later = subst (λ (k : ℕ). old.core.greatest ≤ k) (sym is.0.2.greatest) late;
         }) (is.1 ∙ sym (append-nil old.trail)) refl same.doubt same.a)
 
-    pub take_leads : (who t : ℕ) (result : Result Taken Refusal) → old.core.greatest ≤ t → IfOk result (λ r. IsTake old who t r new) → OnErr result (IsRaised t old new) → Leads seen images moment since [] old new
+    pub take_leads : (who t : ℕ) (result : Result Taken Refusal) → old.core.greatest ≤ t → IfOk result (λ r. IsTake old who t r new) → MatchResult result (λ r. ⊤) (λ e. (e ≡ refusal.NoMemory) × IsRaisedTo old.core.greatest old new) → Leads seen images moment since [] old new
     take_leads who t (Ok r) late is short = took_leads who t r late is
-    take_leads who t (Err e) late is short = may_rise_leads old new (same.a_first, same.b_first) t late short
+    take_leads who t (Err e) late is short = raised_leads old new (same.a_first, same.b_first) old.core.greatest (omega arith) short.1
 
   -- a read changes the greatest moment alone
   pub read_leads : (old new : Contents D) (t : ℕ) → old.core.greatest ≤ t → new ≡ record old { core = record old.core { greatest = t } } → Leads seen images moment since [] old new
@@ -129,6 +129,7 @@ module _ {D : Type 0} (seen : D → Option (List ℕ)) (images : D → List ℕ 
         out = ap (λ (c : Contents D). c.core.out) is;
         greatest = ap (λ (c : Contents D). c.core.greatest) is;
         trail = ap (λ (c : Contents D). c.trail) is;
+        roomless = ap (λ (c : Contents D). c.roomless) is;
         doubt = ap (λ (c : Contents D). c.doubt) is;
         who = ap (λ (c : Contents D). c.who) is;
         a = ap (λ (c : Contents D). c.a) is;

@@ -4,6 +4,7 @@ pub mod Leases
 pub mod Moving
 pub mod Opened
 pub mod Replaying
+pub mod Placing
 pub mod Results
 pub mod Standing
 pub mod Trailing

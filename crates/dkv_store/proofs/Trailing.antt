@@ -63,7 +63,7 @@ items_push base limit before (y ∷ xs) x =
 
 -- ---- what is out
 
-filtered_out : (p : MsgId → Bool) (k : MsgId) (ids : List MsgId) → is_out k (filter (λ id. not (p id)) ids) ≡ (not (p k) && is_out k ids)
+pub filtered_out : (p : MsgId → Bool) (k : MsgId) (ids : List MsgId) → is_out k (filter (λ id. not (p id)) ids) ≡ (not (p k) && is_out k ids)
 filtered_out p k [] = false_right (not (p k))
   where
     false_right : (b : Bool) → false ≡ (b && false)

@@ -5,6 +5,7 @@
 use Rattle.std.specs.Prelude.{ℕ, replicate, ◌≡◌, ◌≢◌, ◌⊎◌, ◌+◌, ◌-◌, ◌^◌, ◌<◌, ◌≤◌, Bool, true, false, IsTrue, List, [], ◌∷◌, ◌++◌, max, count_by, Option, Some, None, is_some, Ok, Err, ◌||◌}
 use Rattle.dkv_base.specs.declared.types.AtomicWrite.{AtomicWrite}
 use Rattle.dkv_base.specs.declared.types.Call.{Call}
+use Rattle.dkv_base.specs.declared.types.Call.TheVariants as called
 use Rattle.dkv_base.specs.declared.types.Commit.{Commit}
 use Rattle.dkv_base.specs.declared.types.Item.{Item}
 use Rattle.dkv_base.specs.declared.types.Item.TheVariants as item
@@ -23,6 +24,8 @@ use Rattle.dkv_base.specs.Writes.{failing, mutated_all}
 use Rattle.dkv_core.specs.Cores.{Database}
 use Rattle.dkv_core.specs.Decisions.{commit_of, OfWrite}
 use Rattle.dkv_core.specs.Runs.{no_limit}
+use Rattle.dkv_core.specs.Settling.{without_id}
+use Rattle.dkv_store.specs.Trails.{message_of, spent, freed}
 use Rattle.dkv_journal.specs.declared.journal.Journal.{Journal}
 use Rattle.dkv_core.specs.Takes.{IsTaken}
 use Rattle.dkv_core.specs.declared.takes.Taken.{Taken}
@@ -48,6 +51,7 @@ pub record Contents (D : Type 0) : Type 0 where
   pub base : State
   pub core : Database
   pub trail : List Item
+  pub roomless : List MsgId
   pub doubt : Option Commit
   pub who : Identity
   pub a : D
@@ -95,6 +99,12 @@ pub record Kept {D : Type 0} (faults : D → ℕ) (s : Contents D) : Type 0 wher
 abbrev pub effective_at : {D : Type 0} → Contents D → ℕ → ℕ
 effective_at s at = max (capped_moment at) s.core.greatest
 
+-- it acknowledges a message that did not lose its place
+abbrev pub IsAckWithPlace : Call → List MsgId → Type 0
+IsAckWithPlace (called.Write w) lost = ⊥
+IsAckWithPlace (called.Ack id) lost = is_out id lost ≡ false
+IsAckWithPlace (called.Fail id) lost = ⊥
+
 -- the same but for the greatest moment and the room
 pub record IsRaisedTo {D : Type 0} (t : ℕ) (old new : Contents D) : Type 0 where
   pub base : new.base ≡ old.base
@@ -103,6 +113,7 @@ pub record IsRaisedTo {D : Type 0} (t : ℕ) (old new : Contents D) : Type 0 whe
   pub greatest : new.core.greatest ≡ t
   pub trail : new.trail ≡ old.trail
   pub doubt : new.doubt ≡ old.doubt
+  pub roomless : new.roomless ≡ old.roomless
   pub who : new.who ≡ old.who
   pub a : new.a ≡ old.a
   pub b : new.b ≡ old.b
@@ -119,6 +130,7 @@ pub record IsMade {D : Type 0} (t : ℕ) (c : Commit) (n : ℕ) (old new : Conte
   pub state : new.core.state ≡ and_then old.core.state c
   pub greatest : new.core.greatest ≡ t
   pub trail : new.trail ≡ old.trail ++ item.Made c ∷ []
+  pub roomless : new.roomless ≡ freed (message_of c) old.roomless
   pub sure : new.doubt ≡ None
   pub who : new.who ≡ old.who
 
@@ -144,7 +156,8 @@ IsDone old who t call (done.NotU64 index) new =
 IsDone old who t call (done.Limit passed) new = OfWrite call (λ w. write_limit w ≡ Some passed) × IsRaisedTo old.core.greatest old new
 
 abbrev pub IsRefused : {D : Type 0} → Contents D → ℕ → ℕ → Call → Refusal → Contents D → Type 0
-IsRefused old who t call refusal.DiskFault new = IsTrue (is_legal_in old.core.state (commit_of who t call)) × IsDoubtful who t old new
+IsRefused old who t call refusal.DiskFault new =
+    IsTrue (is_legal_in old.core.state (commit_of who t call)) × IsDoubtful who t old new × (new.roomless ≡ spent (message_of (commit_of who t call)) old.roomless)
 IsRefused old who t call (refusal.Stopped place) new = OfWrite call (λ w. (write_limit w ≡ None) × (first_stop old.trail ≡ Some place)) × IsRaisedTo t old new
 IsRefused old who t call refusal.NoMemory new = IsRaised t old new
 
@@ -159,6 +172,7 @@ pub record Begins {D : Type 0} (c : Database) (me : Identity) (x y : D) (s : Con
   pub base : s.base ≡ c.state
   pub core : s.core ≡ c
   pub trail : s.trail ≡ []
+  pub roomless : s.roomless ≡ []
   pub doubt : s.doubt ≡ None
   pub who : s.who ≡ me
   pub a_is : s.a ≡ x
@@ -173,6 +187,7 @@ pub record IsFresh {D : Type 0} (a b : D) (s : Contents D) : Type 0 where
   pub out : s.core.out ≡ []
   pub greatest : s.core.greatest ≡ 0
   pub trail : s.trail ≡ []
+  pub roomless : s.roomless ≡ []
   pub doubt : s.doubt ≡ None
   pub id : s.who.id ≡ replicate 16 0
   pub secret : s.who.secret ≡ replicate 32 0
@@ -183,8 +198,8 @@ pub record IsFresh {D : Type 0} (a b : D) (s : Contents D) : Type 0 where
 
 -- a message was taken, and its item joined the trail; or none is due
 abbrev pub IsTake : {D : Type 0} → Contents D → ℕ → ℕ → Taken → Contents D → Type 0
-IsTake old who t (taken.Leased m) new = IsTaken old.core t (taken.Leased m) new.core × (new.trail ≡ old.trail ++ item.Took who t m.id ∷ [])
-IsTake old who t (taken.Nothing moment) new = IsTaken old.core t (taken.Nothing moment) new.core × (new.trail ≡ old.trail)
+IsTake old who t (taken.Leased m) new = IsTaken old.core t (taken.Leased m) new.core × (new.trail ≡ old.trail ++ item.Took who t m.id ∷ []) × (new.roomless ≡ without_id m.id old.roomless)
+IsTake old who t (taken.Nothing moment) new = IsTaken old.core t (taken.Nothing moment) new.core × (new.trail ≡ old.trail) × (new.roomless ≡ old.roomless)
 
 -- both disks, and what they are of, stay
 pub record SameDisks {D : Type 0} (old new : Contents D) : Type 0 where

@@ -1,8 +1,70 @@
--- What contracts see of the items of a term.
-use Rattle.std.specs.Prelude.{ℕ, List}
+-- What contracts see of the items of a term, and of the places that are kept for settlements.
+--     Items      the items, the room for more, the messages that lost their place, and the record for a settlement
+--     KeepsPlaces ..      each message that is out has a place for its settlement, or lost it
+--     spent, freed      the messages without a place once a settlement used its own, and once it was made
+use Rattle.std.specs.Prelude.{ℕ, ◌≡◌, ◌+◌, ◌≤◌, true, false, IsTrue, List, [], ◌∷◌, ◌++◌, Option, Some, None, is_some, if◌then◌else◌}
+use Rattle.dkv_base.specs.declared.types.Commit.{Commit}
+use Rattle.dkv_base.specs.declared.types.Commit.TheVariants as commit
 use Rattle.dkv_base.specs.declared.types.Item.{Item}
+use Rattle.dkv_base.specs.declared.types.MsgId.{MsgId}
+use Rattle.dkv_base.specs.Messages.{is_out}
+use Rattle.dkv_base.specs.Trails.{out}
+use Rattle.dkv_core.specs.Settling.{without_id}
+use Rattle.dkv_journal.specs.Records.{IsLaid}
 
--- the items in order, and how many more find room without memory
+-- the items in order; how many more find room beside the kept places; the messages that lost their place; the record for a settlement
 pub record Items : Type 0 where
   pub items : List Item
   pub room : ℕ
+  pub roomless : List MsgId
+  pub settling : Option (List ℕ)
+
+-- how many of these messages have a place, where those lost theirs
+abbrev pub places : List MsgId → List MsgId → ℕ
+places lost [] = 0
+places lost (id ∷ ids) = (if is_out id lost then 0 else 1) + places lost ids
+
+-- a record of a settlement, if it is one
+abbrev pub IsSettling : Option (List ℕ) → Type 0
+IsSettling None = Unit {0}
+IsSettling (Some laid) = IsLaid 25 laid
+
+-- Each message that is out has a place among the kept ones, or lost it, and there is a record for its settlement. There are n items of
+-- at most `most`, and m messages that lost their place of at most `lost_most`.
+pub record KeepsPlaces (items : List Item) (n most : ℕ) (lost : List MsgId) (m lost_most kept : ℕ) (settling : Option (List ℕ)) : Type 0 where
+  pub counted : places lost (out items) ≤ kept
+  pub within : n + kept ≤ most
+  pub lost_within : m + kept ≤ lost_most
+  pub settled : IsSettling settling
+  pub laid : (id : MsgId) → is_out id (out items) ≡ true → IsTrue (is_some settling)
+
+-- the message that a commit settles
+abbrev pub message_of : Commit → Option MsgId
+message_of (commit.Wrote who at w) = None
+message_of (commit.Acked who at id) = Some id
+message_of (commit.Failed who at id) = Some id
+
+-- it is one of these, if there is one
+abbrev pub IfOut : Option MsgId → List MsgId → Type 0
+IfOut None ids = Unit {0}
+IfOut (Some id) ids = is_out id ids ≡ true
+
+-- it has a place, where these have none
+abbrev pub HasPlace : Option MsgId → List MsgId → Type 0
+HasPlace None lost = ⊥
+HasPlace (Some id) lost = is_out id lost ≡ false
+
+-- the messages without a place, once this one's was used
+abbrev pub spent : Option MsgId → List MsgId → List MsgId
+spent None lost = lost
+spent (Some id) lost = if is_out id lost then lost else lost ++ id ∷ []
+
+-- the messages without a place, once this one was settled
+abbrev pub freed : Option MsgId → List MsgId → List MsgId
+freed None lost = lost
+freed (Some id) lost = without_id id lost
+
+-- the record that was laid out anew, or else the one that is kept
+abbrev pub chosen : Option (List ℕ) → Option (List ℕ) → Option (List ℕ)
+chosen None kept = kept
+chosen (Some laid) kept = Some laid

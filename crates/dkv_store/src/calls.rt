@@ -11,7 +11,7 @@ ghost use Rattle.dkv_msgs.specs.Outputs.{read_output};
 ghost use Rattle.dkv_msgs.specs.Spellings.{spell_snapshot_read_output};
 ghost use Rattle.dkv_io.specs.Disks.{Told, AnyBytes};
 ghost use Rattle.dkv_store.specs.Situations.{Answers, AnswersCall, AnswersTake};
-ghost use Rattle.dkv_store.specs.Stores.{IsDone, IsRefused, IsRaisedTo, IsShort, IsOldOrNew, Kept, SameDisks, effective_at};
+ghost use Rattle.dkv_store.specs.Stores.{IsAckWithPlace, IsDone, IsRefused, IsRaisedTo, IsShort, IsOldOrNew, IsTake, Kept, SameDisks, effective_at};
 ghost use Rattle.dkv_store.specs.Terms.{CommitLeaves, FilesStand, Leads, left_in_doubt};
 ghost use Rattle.dkv_store.specs.declared.answers.Refusal.TheVariants as refusal;
 
@@ -61,6 +61,9 @@ impl<D: Disk> Store<D> {
         ensures other { self.new.b ≡ self.old.b }
         ensures first { (self.new.a_first ≡ self.old.a_first)
             × (self.new.b_first ≡ self.old.b_first) }
+        // The acknowledgement of a message that has a place takes no memory.
+        ensures free { IsAckWithPlace call self.old.roomless
+            → result ≡ Err refusal.NoMemory → ⊥ }
     {
         self.is_kept();
         let done = self.commit_kept(alloc, who, at, call);
@@ -68,10 +71,13 @@ impl<D: Disk> Store<D> {
         done
     }
 
-    /// Takes the message that is due first, and marks it as out. Touches no disk. Takes memory for a copy of it.
+    /// Takes the message that is due first, marks it as out, and makes room for one settlement of it. Touches no disk. Takes memory
+    /// for a copy of the message and for that room.
     pub fn take(&mut self, alloc: Global, who: u32, at: u64) -> Result<Taken, Refusal>
         // The answer is the one-thread database's, but for want of memory.
         ensures steps { AnswersTake self.old who at result self.new }
+        ensures taken { IfOk result (λ taken.
+            IsTake self.old who (effective_at self.old at) taken self.new) }
         ensures goes { Leads D.seen D.may_leave D.moment D.left_since [] self.old self.new }
         ensures disks { SameDisks self.old self.new }
     {

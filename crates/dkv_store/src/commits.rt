@@ -1,5 +1,5 @@
 // Commits: on the disk first, then in the core and in the trail.
-ghost use Rattle.std.specs.Prelude.{◌≡◌, ◌+◌, ◌-◌, ◌^◌, ◌<◌, ◌≤◌, ℕ, List, IsTrue, MatchResult, IfOk, OnOk, OnErr, Some, Err};
+ghost use Rattle.std.specs.Prelude.{◌≡◌, ◌+◌, ◌-◌, ◌^◌, ◌<◌, ◌≤◌, ℕ, List, IsTrue, MatchResult, Some, Err};
 ghost use Rattle.dkv_base.specs.declared.types.Item.TheVariants.{Made};
 ghost use Rattle.dkv_base.specs.declared.types.Profile.TheVariants.{Narrow};
 ghost use Rattle.dkv_base.specs.Profiles.{body_most};
@@ -11,19 +11,18 @@ ghost use Rattle.dkv_msgs.specs.Readings.{reads_atomic_write};
 ghost use Rattle.dkv_record.specs.Records.{commit_of as read_as};
 ghost use Rattle.dkv_io.specs.Causes.{Rose};
 ghost use Rattle.dkv_io.specs.Disks.{Told, AnyBytes};
-ghost use Rattle.dkv_store.specs.Stores.{IsDone, IsRefused, IsShort, IsOldOrNew, effective_at};
+ghost use Rattle.dkv_store.specs.Stores.{IsAckWithPlace, IsDone, IsRefused, IsShort, IsOldOrNew, effective_at};
 ghost use Rattle.dkv_store.specs.Held.{CommitMoves};
 ghost use Rattle.dkv_store.specs.declared.answers.Refusal.TheVariants as refusal;
 
 use crate::answers::{Done, Refusal};
 use crate::keep::write;
+use crate::laid::chosen;
 use crate::store::Store;
 use crate::trail::ITEM_WEIGHT;
-use dkv_base::{Call, Commit, Item, NoMemory};
+use dkv_base::{Call, Commit, Item};
 use dkv_core::{Decided, Prepared};
 use dkv_io::Disk;
-use dkv_journal::{Journal, Laid};
-use dkv_record::write_commit;
 use std::alloc::Global;
 
 impl<D: Disk> Store<D> {
@@ -48,6 +47,8 @@ impl<D: Disk> Store<D> {
         ensures later { D.faults self.old.a ≤ D.faults self.new.a }
         ensures other { self.new.b ≡ self.old.b }
         ensures first { (self.new.a_first ≡ self.old.a_first) × (self.new.b_first ≡ self.old.b_first) }
+        // The acknowledgement of a message that has a place takes no memory.
+        ensures free { IsAckWithPlace call self.old.roomless → result ≡ Err refusal.NoMemory → ⊥ }
     {
         let at = self.core.moment(at);
         match self.core.prepare(alloc, who, at, &call)? {
@@ -88,59 +89,34 @@ impl<D: Disk> Store<D> {
         ensures later { D.faults self.old.a ≤ D.faults self.new.a }
         ensures other { self.new.b ≡ self.old.b }
         ensures first { (self.new.a_first ≡ self.old.a_first) × (self.new.b_first ≡ self.old.b_first) }
+        // The acknowledgement of a message that has a place takes no memory.
+        ensures free { IsAckWithPlace call self.old.roomless → result ≡ Err refusal.NoMemory → ⊥ }
     {
         let commit = commit_for(who, at, call);
-        if self.trail.reserve(1).is_err() {
-            self.core.drop_prepared(prepared);
-            return Err(Refusal::NoMemory);
-        }
-        let Ok((laid, weight)) = lay(alloc, &commit) else {
+        let Ok((fresh, weight)) = self.trail.ready(alloc, &commit) else {
             self.core.drop_prepared(prepared);
             return Err(Refusal::NoMemory);
         };
-        if write(&mut self.files, &laid, &commit).is_err() {
+        let laid = chosen(&fresh, self.trail.settling());
+        if write(&mut self.files, laid, &commit).is_err() {
             self.core.drop_prepared(prepared);
             self.core.raise(at);
             self.trail.add(Item::Doubt { who, at }, ITEM_WEIGHT);
             return Err(Refusal::DiskFault);
         }
         let n = self.core.apply(prepared);
-        self.trail.add(Item::Made(commit), weight);
+        self.trail.add_made(commit, weight);
         Ok(Done::Committed { n })
     }
 }
 
 // The commit that a call asks for.
-fn commit_for(who: u32, at: u64, call: Call) -> Commit
+pub(crate) fn commit_for(who: u32, at: u64, call: Call) -> Commit
     ensures { result ≡ commit_of who at call }
 {
     match call {
         Call::Write(write) => Commit::Wrote { who, at, write },
         Call::Ack(id) => Commit::Acked { who, at, id },
         Call::Fail(id) => Commit::Failed { who, at, id },
-    }
-}
-
-// The record of a commit, laid out, and what the commit weighs. The record reads as the commit again.
-fn lay(alloc: Global, commit: &Commit) -> Result<(Laid, u64), NoMemory>
-    requires { record_length commit.now ≤ body_most Narrow }
-    ensures spelled { IfOk result (λ l. l.0 ≡ laid_of first_layout 0 (record_body commit.now)) }
-    ensures weighed { IfOk result (λ l. l.1 ≡ item_weight (Made commit.now)) }
-    ensures back { OnOk result (read_as reads_atomic_write (record_body commit.now) ≡ Some commit.now) }
-{
-    let body = write_commit(alloc, commit)?;
-    let laid = Journal::lay(alloc, body.as_slice())?;
-    Ok((laid, weight_of(commit, body.len() as u64)))
-}
-
-// What a commit weighs whose record's body has this length.
-fn weight_of(commit: &Commit, length: u64) -> u64
-    requires length { length ≡ record_length commit.now }
-    requires short { length ≤ body_most Narrow }
-    ensures { result ≡ item_weight (Made commit.now) }
-{
-    match commit {
-        Commit::Wrote { .. } => ITEM_WEIGHT + length,
-        Commit::Acked { .. } | Commit::Failed { .. } => ITEM_WEIGHT,
     }
 }

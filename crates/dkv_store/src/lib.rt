@@ -11,6 +11,7 @@ mod held;
 mod keep;
 mod looks;
 mod opening;
+mod laid;
 mod reads;
 mod recall;
 mod replay;
@@ -31,3 +32,4 @@ pub use trail::MAX_TRAIL_BYTES;
 
 #[cfg(test)]
 mod opening_tests;
+mod tests;

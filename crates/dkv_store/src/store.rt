@@ -21,6 +21,7 @@ use std::marker::Model;
 const FIRST_GATE: u64 = 112;
 
 /// The database over two files: the core, the items of this term, and the files, which stand for the core's state at each moment.
+#[derive(Drop)]
 pub struct Store<D: Disk> {
     pub(crate) core: Core,
     base: Recall<Core>,
@@ -42,6 +43,7 @@ impl<D: Disk> Model for Store<D> {
       base = s.base.value.state;
       core = s.core;
       trail = s.trail.items;
+      roomless = s.trail.roomless;
       doubt = option_map (λ d. d.value) s.files.doubt;
       who = record { id = s.id; secret = s.secret; profile = Narrow };
       a = s.files.pair.a;
@@ -54,6 +56,7 @@ impl<D: Disk> Model for Store<D> {
       base = s.base.value.state;
       core = s.core;
       trail = s.trail.items;
+      roomless = s.trail.roomless;
       doubt = option_map (λ d. d.value) s.files.doubt;
       who = record { id = s.id; secret = s.secret; profile = Narrow };
       a = s.files.pair.a;

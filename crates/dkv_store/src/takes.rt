@@ -1,33 +1,36 @@
 // Messages, taken one after the other.
-ghost use Rattle.std.specs.Prelude.{◌≡◌, IfOk, IfErr, OnErr};
-ghost use Rattle.dkv_store.specs.Stores.{IsRaised, IsTake, SameDisks, effective_at};
+ghost use Rattle.std.specs.Prelude.{◌≡◌, IfOk, MatchResult, ⊤};
+ghost use Rattle.dkv_store.specs.Stores.{IsTake, IsRaisedTo, SameDisks, effective_at};
 ghost use Rattle.dkv_store.specs.declared.answers.Refusal.TheVariants as refusal;
 
 use crate::answers::Refusal;
 use crate::store::Store;
-use crate::trail::ITEM_WEIGHT;
-use dkv_base::Item;
-use dkv_core::Taken;
+use dkv_base::TryCopy;
+use dkv_core::{NextDue, Taken};
 use dkv_io::Disk;
 use std::alloc::Global;
 
 impl<D: Disk> Store<D> {
-    /// Takes the message that is due first. Touches no disk.
+    /// Takes the message that is due first, and makes room for one settlement of it. Touches no disk. Takes memory for a copy of
+    /// the message and for that room.
     pub(crate) fn take_kept(&mut self, alloc: Global, who: u32, at: u64) -> Result<Taken, Refusal>
         ensures taken { IfOk result (λ taken. IsTake self.old who (effective_at self.old at) taken self.new) }
+        ensures refused { MatchResult result (λ _. ⊤)
+            (λ r. (r ≡ refusal.NoMemory) × IsRaisedTo self.old.core.greatest self.old self.new) }
         ensures disks { SameDisks self.old self.new }
-        ensures short { OnErr result (IsRaised (effective_at self.old at) self.old self.new) }
-        ensures cause { IfErr result (λ e. e ≡ refusal.NoMemory) }
     {
         let at = self.core.moment(at);
-        if self.trail.reserve(1).is_err() {
-            return Err(Refusal::NoMemory);
-        }
-        let taken = self.core.take(alloc, at)?;
-        if let Taken::Leased(message) = &taken {
-            let id = message.id;
-            self.trail.add(Item::Took { who, at, id }, ITEM_WEIGHT);
-        }
-        Ok(taken)
+        let message = match self.core.due(at) {
+            NextDue::Message(message) => message.copy(alloc)?,
+            NextDue::Nothing { next } => {
+                self.core.raise(at);
+                return Ok(Taken::Nothing { next });
+            }
+        };
+        let id = message.id;
+        self.trail.add_taken(alloc, who, at, id)?;
+        self.core.lease(id);
+        self.core.raise(at);
+        Ok(Taken::Leased(message))
     }
 }

@@ -1,11 +1,12 @@
-use Rattle.std.proofs.Common.{◌≡◌, ◌∙◌, sym, ap, subst, List, [], ◌∷◌, ◌++◌, ℕ, ◌≤◌, Bool, Option, Some, None}
+use Rattle.std.proofs.Common.{◌≡◌, ◌∙◌, sym, ap, subst, List, [], ◌∷◌, ◌++◌, ℕ, ◌≤◌, Bool, false, Option, Some, None, Result, Ok, Err, OnOk, refl}
 use Rattle.dkv_base.specs.declared.types.Commit.{Commit}
 use Rattle.dkv_base.specs.declared.types.Profile.TheVariants.{Narrow}
 use Rattle.dkv_base.specs.Profiles.{body_most}
 use Rattle.dkv_base.specs.Spelling.{record_length}
 use Rattle.dkv_base.specs.State.{State}
 use Rattle.dkv_base.specs.After.{is_legal_in}
-use Rattle.std.specs.Prelude.{IsTrue, option_map, is_some}
+use Rattle.std.specs.Prelude.{IsTrue, option_map, is_some, is_err}
+use Rattle.dkv_core.specs.Cores.{applied}
 use Rattle.dkv_core.specs.Decisions.{commit_of, Goes}
 use Rattle.dkv_files.specs.Crashes.{Identity, and_then}
 use Rattle.dkv_store.specs.Held.{CommitMoves, MayAdd, Hold, Guarded}
@@ -14,17 +15,12 @@ use Rattle.dkv_store.specs.declared.recall.Recall.{Recall}
 use Rattle.dkv_base.specs.declared.types.Item.{Item}
 use Rattle.dkv_base.specs.declared.types.Item.TheVariants as item
 use Rattle.dkv_io.proofs.Seen.{was_told}
+use Rattle.dkv_store.specs.Trails.{message_of, freed}
 use Rattle.dkv_store.proofs.Keeping.{kept_doubt, kept_made}
+use Rattle.dkv_store.proofs.Placing.{freed_spent}
 use Rattle.dkv_store.proofs.Results.{err_of, ok_of, failed_of}
 use Rattle.dkv_store.proofs.Standing.{keeps_still}
 use Rattle.dkv_store.proofs.store.Store.make.Goals as goal
-
-pub returns-then-is_err-clause-moves : goal.returns-then-is_err-clause-moves
-returns-then-is_err-clause-moves g c fa fb told_a told_b =
-    let i = c.self.inside in
-    let kept = subst (λ (s : Contents g.row.D.Denot). Keeps g.D.Disk.seen g.D.Disk.may_leave g.D.Disk.faults i.files.journal s) c.self.view_is c.self.invariant in
-    keeps_still g.D.Disk.seen g.D.Disk.may_leave g.D.Disk.moment g.D.Disk.left_since g.D.Disk.faults i.files.journal c.args.self.now kept (commit_of c.args.who c.args.at c.args.call)
-    i.files.pair.a i.files.pair.b (ap (λ s. s.a) c.self.view_is) (ap (λ s. s.b) c.self.view_is) fa fb told_a told_b
 
 pub returns-in_default-clause-moves : goal.returns-in_default-clause-moves
 returns-in_default-clause-moves g c fa fb told_a told_b =
@@ -33,8 +29,8 @@ returns-in_default-clause-moves g c fa fb told_a told_b =
     keeps_still g.D.Disk.seen g.D.Disk.may_leave g.D.Disk.moment g.D.Disk.left_since g.D.Disk.faults i.files.journal c.args.self.now kept (commit_of c.args.who c.args.at c.args.call)
     i.files.pair.a i.files.pair.b (ap (λ s. s.a) c.self.view_is) (ap (λ s. s.b) c.self.view_is) fa fb told_a told_b
 
-pub returns-then-is_err-2-clause-moves : goal.returns-then-is_err-2-clause-moves
-returns-then-is_err-2-clause-moves g c =
+pub returns-then-is_err-clause-moves : goal.returns-then-is_err-clause-moves
+returns-then-is_err-clause-moves g c =
     let i = c.self.inside in
     let k = c.commit_for-commit.result in
     let is = c.commit_for-commit.ensures in
@@ -75,8 +71,8 @@ named_on : (v : Bool) (o : Option (Recall Commit)) → v ≡ is_some o → v ≡
 named_on v None is = is
 named_on v (Some d) is = is
 
-pub invariant_of-self-then-is_err-2 : goal.invariant_of-self-then-is_err-2
-invariant_of-self-then-is_err-2 g c =
+pub invariant_of-self-then-is_err : goal.invariant_of-self-then-is_err
+invariant_of-self-then-is_err g c =
     let i = c.self.inside in
     let k = c.commit_for-commit.result in
     let is = c.commit_for-commit.ensures in
@@ -88,14 +84,14 @@ invariant_of-self-then-is_err-2 g c =
       short = subst (λ (m : Commit). record_length m ≤ body_most Narrow) (sym is) (c.requires.short c.requires.goes.legal);
       legal = subst (λ (m : Commit). IsTrue (is_legal_in i.core.state m)) (sym is) goes.legal;
     } in
-    let failed = sym c.is_err-2.ensures.value ∙ c.if-is_err-2.true in
-    kept_doubt g.D.Disk.seen g.D.Disk.may_leave g.D.Disk.faults i.files.journal n.journal i.base.value.state i.core c.raise.new.self i.trail.items c.add.new.self.items
+    let failed = sym c.is_err.ensures.value ∙ c.if-is_err.true in
+    kept_doubt g.D.Disk.seen g.D.Disk.may_leave g.D.Disk.faults i.files.journal n.journal i.base.value.state i.core c.raise.new.self i.trail.items c.add.new.self.items i.trail.roomless c.add.new.self.roomless
     (option_map (λ d. d.value) i.files.doubt) (option_map (λ d. d.value) n.doubt) me i.files.pair.a n.pair.a i.files.pair.b n.pair.b i.first.value.a i.first.value.b c.self.invariant
     c.args.who c.args.at c.args.call c.args.prepared goes (named_on _ n.doubt c.write.ensures.named) c.write.ensures.other
-    (ap (λ w. w.state) c.raise.ensures ∙ ap (λ w. w.state) c.drop_prepared-then-is_err-2.ensures)
-    (ap (λ w. w.out) c.raise.ensures ∙ ap (λ w. w.out) c.drop_prepared-then-is_err-2.ensures)
+    (ap (λ w. w.state) c.raise.ensures ∙ ap (λ w. w.state) c.drop_prepared-then-is_err.ensures)
+    (ap (λ w. w.out) c.raise.ensures ∙ ap (λ w. w.out) c.drop_prepared-then-is_err.ensures)
     (ap (λ w. w.greatest) c.raise.ensures)
-    (c.add.ensures.items ∙ ap (λ (l : List Item). l ++ item.Doubt c.args.who c.args.at ∷ []) c.reserve.ensures.items)
+    (c.add.ensures.items ∙ ap (λ (l : List Item). l ++ item.Doubt c.args.who c.args.at ∷ []) c.ready.ensures.items)
     (failed_of c.write.result _ c.write.ensures.cause.failed failed)
     (λ fa told.
     let was = was_told _ _ _ fa told c.write.ensures.told in
@@ -114,23 +110,51 @@ invariant_of-self-2 g c =
       short = subst (λ (m : Commit). record_length m ≤ body_most Narrow) (sym is) (c.requires.short c.requires.goes.legal);
       legal = subst (λ (m : Commit). IsTrue (is_legal_in i.core.state m)) (sym is) goes.legal;
     } in
-    let went = sym c.is_err-2.ensures.value ∙ c.if-is_err-2.false in
-    kept_made g.D.Disk.seen g.D.Disk.may_leave g.D.Disk.faults i.files.journal n.journal i.base.value.state i.core c.apply-n.new.self i.trail.items c.add-2.new.self.items
+    let went = sym c.is_err.ensures.value ∙ c.if-is_err.false in
+    kept_made g.D.Disk.seen g.D.Disk.may_leave g.D.Disk.faults i.files.journal n.journal i.base.value.state i.core c.apply-n.new.self i.trail.items c.add_made.new.self.items i.trail.roomless c.add_made.new.self.roomless
     (option_map (λ d. d.value) i.files.doubt) (option_map (λ d. d.value) n.doubt) me i.files.pair.a n.pair.a i.files.pair.b n.pair.b i.first.value.a i.first.value.b c.self.invariant
     c.args.who c.args.at c.args.call c.args.prepared goes (named_on _ n.doubt c.write.ensures.named) c.write.ensures.other
     c.apply-n.ensures.state c.apply-n.ensures.out c.apply-n.ensures.moment
-    (c.add-2.ensures.items ∙ (λ z. c.reserve.ensures.items z ++ item.Made (is z) ∷ []))
+    (c.add_made.ensures.items ∙ (λ z. c.ready.ensures.items z ++ item.Made (is z) ∷ []))
     c.write.ensures.cause.later
     (λ fa told.
     let was = was_told _ _ _ fa told c.write.ensures.told in
     subst (λ (m : Commit). Hold (g.D.Disk.may_leave n.pair.a) (Guarded (g.D.Disk.seen n.pair.b) (g.D.Disk.may_leave n.pair.b)) n.journal (option_map (λ d. d.value) n.doubt) (and_then i.core.state m) me) is
     (ok_of c.write.result _ _ (c.write.ensures.holds i.core.state me was.file was.seen (c.self.invariant.stands was.file was.seen) may) went))
 
-pub returns-then-is_err-2-clause-doubted : goal.returns-then-is_err-2-clause-doubted
-returns-then-is_err-2-clause-doubted g c answered =
+pub returns-then-is_err-clause-doubted : goal.returns-then-is_err-clause-doubted
+returns-then-is_err-clause-doubted g c answered =
     let i = c.self.inside in
-    let failed = sym c.is_err-2.ensures.value ∙ c.if-is_err-2.true in
+    let failed = sym c.is_err.ensures.value ∙ c.if-is_err.true in
     let new = option_map (λ d. d.value) c.write.new.files.doubt in
     subst (λ (s : Contents g.row.D.Denot). IsOldOrNew s.doubt (commit_of c.args.who c.args.at c.args.call) new) c.self.view_is
     (subst (λ (m : Commit). IsOldOrNew (option_map (λ d. d.value) i.files.doubt) m new) c.commit_for-commit.ensures
     (failed_of c.write.result _ c.write.ensures.doubted failed))
+
+ok_gives : {T E Q : Type 0} (r : Result T E) → OnOk r Q → is_err r ≡ false → Q
+ok_gives (Ok x) has is = has
+ok_gives (Err e) has is = absurd (cc is)
+
+none_of : (o : Option (Recall Commit)) → is_some o ≡ false → option_map (λ d. d.value) o ≡ None
+none_of None is = refl
+none_of (Some d) is = absurd (cc is)
+
+pub returns-clause-answer : goal.returns-clause-answer
+returns-clause-answer g c =
+    let i = c.self.inside in
+    let k = c.commit_for-commit.result in
+    let is = c.commit_for-commit.ensures in
+    let goes = c.requires.goes in
+    let went = sym c.is_err.ensures.value ∙ c.if-is_err.false in
+    record {
+      number = c.apply-n.ensures.number ∙ goes.ready.number;
+      legal = goes.legal;
+      base = ap (λ s. s.base) c.self.view_is;
+      state = c.apply-n.ensures.state ∙ ap (λ s. applied c.args.prepared s.core.state) c.self.view_is ∙ goes.makes;
+      greatest = c.apply-n.ensures.moment ∙ goes.moment;
+      trail = c.add_made.ensures.items ∙ (λ z. c.ready.ensures.items z ++ item.Made (is z) ∷ []) ∙ ap (λ s. s.trail ++ item.Made (commit_of c.args.who c.args.at c.args.call) ∷ []) c.self.view_is;
+      roomless = c.add_made.ensures.roomless ∙ ap (freed (message_of k)) c.in-Ok.ensures.spent ∙ freed_spent (message_of k) i.trail.roomless
+          ∙ (λ z. freed (message_of (is z)) (c.self.view_is z).roomless);
+      sure = none_of c.write.new.files.doubt (sym c.write.ensures.named ∙ ok_gives c.write.result c.write.ensures.sure went);
+      who = ap (λ s. s.who) c.self.view_is;
+    }
