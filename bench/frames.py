@@ -56,8 +56,8 @@ def reads(start, end, limit):
     return part(1, part(1, start) + part(2, end) + number(3, limit))
 
 
-def frame(kind, body, at=5):
-    return struct.pack("<IIQB", len(body) + 13, 1, at, kind) + body
+def frame(kind, body, at=5, caller=1):
+    return struct.pack("<IIQB", len(body) + 13, caller, at, kind) + body
 
 
 def load(keys, part_of):

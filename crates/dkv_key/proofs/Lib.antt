@@ -5,4 +5,5 @@ mod Doubles
 mod PartOrder
 mod Fronts
 mod Stamping
+mod Words
 mod Finding

@@ -1,5 +1,5 @@
 -- How lists of bytes compare.
-use Rattle.std.proofs.Common.{◌≡◌, ◌⊎◌, inl, inr, ℕ, ◌<◌, List, [], ◌∷◌, ◌++◌, length, refl, sym, ap, ◌∙◌, arith}
+use Rattle.std.proofs.Common.{◌≡◌, ◌≢◌, ◌⊎◌, inl, inr, ℕ, ◌<◌, ◌≤◌, List, [], ◌∷◌, ◌++◌, length, refl, sym, ap, ◌∙◌, arith}
 use Rattle.std.specs.Ordering.{nat_cmp, ordering_then}
 use Rattle.std.specs.declared.cmp.Ordering.{Ordering}
 use Rattle.std.specs.declared.cmp.Ordering.TheVariants.{Less, Equal, Greater}
@@ -38,6 +38,13 @@ ranked x y =
     elim (cases_lt x y) [
       | inl lt ↦ inl lt
       | inr le ↦ elim (cases_lt y x) [ inl gt ↦ inr (inr gt) | inr ge ↦ inr (inl (omega (arith, le, ge))) ]
+    ]
+
+pub apart_alone : (x y : ℕ) (o : Ordering) → x ≢ y → ordering_then (nat_cmp x y) o ≡ nat_cmp x y
+apart_alone x y o ne =
+    elim (ranked x y) [
+      | inl lt ↦ rw (nat_less x y lt) refl
+      | inr more ↦ elim more [ inl e ↦ absurd (ne e) | inr gt ↦ rw (nat_greater x y gt) refl ]
     ]
 
 -- numbers that rank alike compare alike
@@ -79,3 +86,9 @@ same_length [] (y ∷ b) s t e = absurd (omega (arith, e))
 same_length (x ∷ a) [] s t e = absurd (omega (arith, e))
 same_length (x ∷ a) (y ∷ b) s t e =
     ap (ordering_then (nat_cmp x y)) (same_length a b s t (omega (arith, e))) ∙ sym (then_assoc (nat_cmp x y) (key_cmp a b) (key_cmp s t))
+
+-- a key that goes on is above one that ended
+pub goes_on : (a b : List ℕ) → 1 ≤ length a → length b < 1 → key_cmp a b ≡ Greater
+goes_on [] b some none = absurd (omega (arith, some))
+goes_on (x ∷ a) [] some none = refl
+goes_on (x ∷ a) (y ∷ b) some none = absurd (omega (arith, none))

@@ -13,7 +13,7 @@ use Rattle.dkv_key.specs.declared.part.Part.TheVariants as part
 use Rattle.hex.specs.Hex.{IsBytes}
 use Rattle.dkv_key.specs.Parts.{IsInteger, IsWellFormed, IsPart, escaped, count_spelling, magnitude_spelling, double_bytes, spelling, number, integer, rank, part_cmp}
 use Rattle.dkv_key.specs.Reading.{MayFollow, Begins}
-use Rattle.dkv_key.proofs.Orders.{then_first, then_second, nat_less, nat_equal, nat_greater, ranked, ranked_alike, same_keys, key_cmp-equal, first_less, first_greater, same_length}
+use Rattle.dkv_key.proofs.Orders.{then_first, then_second, nat_less, nat_equal, nat_greater, ranked, ranked_alike, apart_alone, same_keys, key_cmp-equal, first_less, first_greater, same_length}
 use Rattle.dkv_key.proofs.Escapes.{escaped_order}
 use Rattle.dkv_key.proofs.Numbers.{number_some, magnitude_order, positive_order, negative_order, negative_first, positive_last}
 use Rattle.dkv_key.proofs.Doubles.{same_double, length-double_bytes}
@@ -21,13 +21,6 @@ use Rattle.dkv_key.proofs.Doubles.{same_double, length-double_bytes}
 -- where two numbers differ, nothing behind them counts
 apart_then : (x y : ℕ) (o p : Ordering) → x ≢ y → ordering_then (nat_cmp x y) o ≡ ordering_then (nat_cmp x y) p
 apart_then x y o p ne =
-    elim (ranked x y) [
-      | inl lt ↦ rw (nat_less x y lt) refl
-      | inr more ↦ elim more [ inl e ↦ absurd (ne e) | inr gt ↦ rw (nat_greater x y gt) refl ]
-    ]
-
-apart_alone : (x y : ℕ) (o : Ordering) → x ≢ y → ordering_then (nat_cmp x y) o ≡ nat_cmp x y
-apart_alone x y o ne =
     elim (ranked x y) [
       | inl lt ↦ rw (nat_less x y lt) refl
       | inr more ↦ elim more [ inl e ↦ absurd (ne e) | inr gt ↦ rw (nat_greater x y gt) refl ]

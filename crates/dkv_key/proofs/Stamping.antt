@@ -24,7 +24,7 @@ then_equal Equal = refl
 then_equal Greater = refl
 
 -- eight bytes write one number, whichever definition reads them
-number_of_8 : (a b c d e f g h : ℕ) → let bytes : List ℕ = a ∷ b ∷ c ∷ d ∷ e ∷ f ∷ g ∷ h ∷ [] in number bytes ≡ from_be_bytes w64 bytes
+pub number_of_8 : (a b c d e f g h : ℕ) → let bytes : List ℕ = a ∷ b ∷ c ∷ d ∷ e ∷ f ∷ g ∷ h ∷ [] in number bytes ≡ from_be_bytes w64 bytes
 number_of_8 a b c d e f g h = omega arith
 
 -- the bytes of a number write it

@@ -9,4 +9,5 @@ mod Joined
 mod Counted
 mod Enclosing
 mod RangesSpelled
+mod Stamped
 mod Table

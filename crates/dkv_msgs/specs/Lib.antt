@@ -7,5 +7,5 @@ pub mod Outputs
 pub mod Places
 pub mod Readings
 pub mod Requests
-pub mod Sources
+pub mod Parts
 pub mod Spellings

@@ -11,8 +11,8 @@ mod read;
 mod read_counts;
 mod read_fields;
 mod read_messages;
+mod read_parts;
 mod read_places;
-mod read_source;
 mod replies;
 mod requests;
 #[cfg(test)]
@@ -27,7 +27,7 @@ pub use read::{
     ReadError, read_atomic_write, read_atomic_write_output, read_snapshot_read,
     read_snapshot_read_output, read_watch, read_watch_output,
 };
-pub use replies::{fails_reply, read_reply, written_reply};
+pub use replies::{WRITTEN_BYTES, fails_reply, read_reply, written_body, written_reply};
 pub use requests::{RequestError, request_atomic_write, request_snapshot_read, request_watch};
 pub use types::{
     AtomicWriteOutput, KvEntry, SnapshotRead, SnapshotReadOutput, Watch, WatchKeyOutput,

@@ -2,7 +2,7 @@
 ghost use Rattle.std.specs.Prelude.{◌≡◌, ◌++◌, [], ◌∷◌, map, IfOk, OnOk, MatchOption};
 ghost use Rattle.dkv_wire.specs.FieldLists.{fields, varints};
 ghost use Rattle.dkv_wire.specs.Reading.{content};
-ghost use Rattle.dkv_msgs.specs.ByField.{last_or, payloads, numbers, numbers_in, number_in, held_by, uint32};
+ghost use Rattle.dkv_msgs.specs.ByField.{last_or, payloads, numbers, numbers_in, number_in, bytes_in, held_by, uint32};
 
 use crate::read_counts::count;
 use dkv_base::{Bytes, NoMemory, Run};
@@ -64,18 +64,6 @@ pub(crate) fn last_bytes<'a>(before: &'a [u8], field: u32, bytes: &'a [u8]) -> &
     last
 }
 
-// All bytes in a field, in order.
-pub(crate) fn all_bytes(alloc: Global, field: u32, bytes: &[u8]) -> Result<Run<Bytes>, NoMemory>
-    ensures { IfOk result (λ all. all ≡ payloads field (fields 0 bytes.now)) }
-{
-    let mut all = Run::of(Vec::with_capacity(alloc, count(field, bytes))?);
-    let mut texts = Payloads::new(field, bytes);
-    while let Some(text) = texts.next() {
-        all.add(Bytes::copy_of(alloc, text)?)?;
-    }
-    Ok(all)
-}
-
 // The last number in a field, or the one from before.
 pub(crate) fn last_number(before: u64, field: u32, bytes: &[u8]) -> u64
     ensures { result ≡ last_or before (held_by number_in field (fields 0 bytes.now)) }
@@ -99,8 +87,64 @@ fn add_low(all: &mut Run<u32>, n: u64) -> Result<(), NoMemory>
     all.add((n % (1 << 32)) as u32)
 }
 
+// The bytes that a field holds, or those from before.
+pub(crate) fn text_or<'a>(before: &'a [u8], payload: Payload<'a>) -> &'a [u8]
+    ensures { result.now ≡ last_or before.now (bytes_in (content payload.entry)) }
+{
+    match payload {
+        Payload::Len(text) => text,
+        Payload::Varint(_) | Payload::Fixed64(_) | Payload::Fixed32(_) => before,
+    }
+}
+
+// The number that a field holds, or the one from before.
+pub(crate) fn number_or(before: u64, payload: Payload) -> u64
+    ensures { result ≡ last_or before (number_in (content payload.entry)) }
+{
+    match payload {
+        Payload::Varint(n) => n,
+        Payload::Len(_) | Payload::Fixed64(_) | Payload::Fixed32(_) => before,
+    }
+}
+
+// The same list. One that is empty has room for all payloads of the field.
+fn with_room(
+    alloc: Global,
+    all: Run<Bytes>,
+    field: u32,
+    bytes: &[u8],
+) -> Result<Run<Bytes>, NoMemory>
+    ensures { IfOk result (λ same. same ≡ all) }
+{
+    if all.is_empty() {
+        Ok(Run::of(Vec::with_capacity(alloc, count(field, bytes))?))
+    } else {
+        Ok(all)
+    }
+}
+
+// The list with the bytes that a field of these bytes holds behind it.
+pub(crate) fn with_payload(
+    alloc: Global,
+    all: Run<Bytes>,
+    field: u32,
+    payload: Payload,
+    bytes: &[u8],
+) -> Result<Run<Bytes>, NoMemory>
+    ensures { IfOk result (λ more. more ≡ all ++ bytes_in (content payload.entry)) }
+{
+    match payload {
+        Payload::Len(text) => {
+            let mut more = with_room(alloc, all, field, bytes)?;
+            more.add(Bytes::copy_of(alloc, text)?)?;
+            Ok(more)
+        }
+        Payload::Varint(_) | Payload::Fixed64(_) | Payload::Fixed32(_) => Ok(all),
+    }
+}
+
 // Adds the numbers that a field holds: one, or packed ones.
-fn add_held(all: &mut Run<u32>, payload: Payload) -> Result<(), NoMemory>
+pub(crate) fn add_held(all: &mut Run<u32>, payload: Payload) -> Result<(), NoMemory>
     ensures { OnOk result (all.new ≡ all.old ++ map uint32 (numbers_in (content payload.entry))) }
 {
     match payload {

@@ -3,11 +3,11 @@ ghost use Rattle.std.specs.Prelude.{◌≡◌, IfOk};
 ghost use Rattle.dkv_wire.specs.FieldLists.{fields};
 ghost use Rattle.dkv_msgs.specs.ByField.{int32, int64};
 ghost use Rattle.dkv_msgs.specs.Messages.{atomic_write, each_of, one_of, kv_value, kv_entry};
-ghost use Rattle.dkv_msgs.specs.Sources.{source_fields};
+ghost use Rattle.dkv_msgs.specs.Parts.{value_of, entry_of};
 
 use crate::read_counts::{WriteCounts, count};
-use crate::read_fields::{Payloads, all_bytes, last_bytes, last_number, numbers};
-use crate::read_source::Source;
+use crate::read_fields::{Payloads, add_held, number_or, text_or, with_payload};
+use crate::read_parts::Parts;
 use crate::types::{KvEntry, WatchKeyOutput};
 use dkv_base::{AtomicWrite, Bytes, Check, Enqueue, Mutation, NoMemory, ReadRange, Run, Value};
 use dkv_wire::{Fields, Payload};
@@ -82,45 +82,47 @@ fn signed(n: u64) -> i64
     n.cast_signed()
 }
 
-// A value from its fields.
-fn value_of(alloc: Global, source: Source) -> Result<Value, NoMemory>
-    ensures { IfOk result (λ v. v ≡ kv_value (source_fields source.entry)) }
+// A value from its parts.
+fn value_of(alloc: Global, parts: Parts) -> Result<Value, NoMemory>
+    ensures { IfOk result (λ v. v ≡ value_of parts.entry) }
 {
     Ok(Value {
-        bytes: Bytes::copy_of(alloc, source.bytes(1))?,
-        encoding: low_signed(source.number(2)),
+        bytes: Bytes::copy_of(alloc, parts.bytes1)?,
+        encoding: low_signed(parts.number2),
     })
 }
 
 // The value in a field, if it is given, from all its pieces.
+#[tactic(auto, using(crate::proofs::Joined::value_given))]
 fn given_value(alloc: Global, field: u32, bytes: &[u8]) -> Result<Option<Value>, NoMemory>
     ensures { IfOk result (λ v. v ≡ one_of kv_value field (fields 0 bytes.now)) }
 {
-    match Payloads::new(field, bytes).next() {
+    match Parts::joined(field, bytes) {
         None => Ok(None),
-        Some(_) => Ok(Some(value_of(alloc, Source::Pieces(field, bytes))?)),
+        Some(parts) => Ok(Some(value_of(alloc, parts)?)),
     }
 }
 
-// An entry from its fields.
-fn entry_of(alloc: Global, source: Source) -> Result<KvEntry, NoMemory>
-    ensures { IfOk result (λ e. e ≡ kv_entry (source_fields source.entry)) }
+// An entry from its parts.
+fn entry_of(alloc: Global, parts: Parts) -> Result<KvEntry, NoMemory>
+    ensures { IfOk result (λ e. e ≡ entry_of parts.entry) }
 {
     Ok(KvEntry {
-        key: Bytes::copy_of(alloc, source.bytes(1))?,
-        value: Bytes::copy_of(alloc, source.bytes(2))?,
-        encoding: low_signed(source.number(3)),
-        versionstamp: Bytes::copy_of(alloc, source.bytes(4))?,
+        key: Bytes::copy_of(alloc, parts.bytes1)?,
+        value: Bytes::copy_of(alloc, parts.bytes2)?,
+        encoding: low_signed(parts.number3),
+        versionstamp: Bytes::copy_of(alloc, parts.bytes4)?,
     })
 }
 
 // The entry in a field, if it is given, from all its pieces.
+#[tactic(auto, using(crate::proofs::Joined::entry_given))]
 fn given_entry(alloc: Global, field: u32, bytes: &[u8]) -> Result<Option<KvEntry>, NoMemory>
     ensures { IfOk result (λ e. e ≡ one_of kv_entry field (fields 0 bytes.now)) }
 {
-    match Payloads::new(field, bytes).next() {
+    match Parts::joined(field, bytes) {
         None => Ok(None),
-        Some(_) => Ok(Some(entry_of(alloc, Source::Pieces(field, bytes))?)),
+        Some(parts) => Ok(Some(entry_of(alloc, parts)?)),
     }
 }
 
@@ -130,11 +132,12 @@ impl Embedded for ReadRange {
     ghost read_of = { read_range };
 
     fn read(alloc: Global, bytes: &[u8]) -> Result<ReadRange, NoMemory> {
+        let parts = Parts::of(bytes);
         Ok(ReadRange {
-            start: Bytes::copy_of(alloc, last_bytes(&[], 1, bytes))?,
-            end: Bytes::copy_of(alloc, last_bytes(&[], 2, bytes))?,
-            limit: low_signed(last_number(0, 3, bytes)),
-            reverse: last_number(0, 4, bytes) != 0,
+            start: Bytes::copy_of(alloc, parts.bytes1)?,
+            end: Bytes::copy_of(alloc, parts.bytes2)?,
+            limit: low_signed(parts.number3),
+            reverse: parts.number4 != 0,
         })
     }
 }
@@ -145,9 +148,10 @@ impl Embedded for Check {
     ghost read_of = { check };
 
     fn read(alloc: Global, bytes: &[u8]) -> Result<Check, NoMemory> {
+        let parts = Parts::of(bytes);
         Ok(Check {
-            key: Bytes::copy_of(alloc, last_bytes(&[], 1, bytes))?,
-            versionstamp: Bytes::copy_of(alloc, last_bytes(&[], 2, bytes))?,
+            key: Bytes::copy_of(alloc, parts.bytes1)?,
+            versionstamp: Bytes::copy_of(alloc, parts.bytes2)?,
         })
     }
 }
@@ -158,11 +162,12 @@ impl Embedded for Mutation {
     ghost read_of = { mutation };
 
     fn read(alloc: Global, bytes: &[u8]) -> Result<Mutation, NoMemory> {
+        let parts = Parts::of(bytes);
         Ok(Mutation {
-            key: Bytes::copy_of(alloc, last_bytes(&[], 1, bytes))?,
+            key: Bytes::copy_of(alloc, parts.bytes1)?,
             value: given_value(alloc, 2, bytes)?,
-            kind: low_signed(last_number(0, 3, bytes)),
-            expire_at_ms: signed(last_number(0, 4, bytes)),
+            kind: low_signed(parts.number3),
+            expire_at_ms: signed(parts.number4),
         })
     }
 }
@@ -173,11 +178,25 @@ impl Embedded for Enqueue {
     ghost read_of = { enqueue };
 
     fn read(alloc: Global, bytes: &[u8]) -> Result<Enqueue, NoMemory> {
+        let mut payload: &[u8] = &[];
+        let mut deadline = 0;
+        let mut undelivered = Run::new(alloc);
+        let mut backoff = Run::new(alloc);
+        let mut fields = Fields::new(bytes);
+        while let Ok(Some(found)) = fields.next() {
+            match found.number {
+                1 => payload = text_or(payload, found.payload),
+                2 => deadline = number_or(deadline, found.payload),
+                3 => undelivered = with_payload(alloc, undelivered, 3, found.payload, bytes)?,
+                4 => add_held(&mut backoff, found.payload)?,
+                _ => {}
+            }
+        }
         Ok(Enqueue {
-            payload: Bytes::copy_of(alloc, last_bytes(&[], 1, bytes))?,
-            deadline_ms: signed(last_number(0, 2, bytes)),
-            undelivered: all_bytes(alloc, 3, bytes)?,
-            backoff: numbers(alloc, 4, bytes)?,
+            payload: Bytes::copy_of(alloc, payload)?,
+            deadline_ms: signed(deadline),
+            undelivered,
+            backoff,
         })
     }
 }
@@ -189,7 +208,7 @@ impl Embedded for Bytes {
     ghost read_of = { watch_key };
 
     fn read(alloc: Global, bytes: &[u8]) -> Result<Bytes, NoMemory> {
-        Bytes::copy_of(alloc, last_bytes(&[], 1, bytes))
+        Bytes::copy_of(alloc, Parts::of(bytes).bytes1)
     }
 }
 
@@ -199,7 +218,7 @@ impl Embedded for KvEntry {
     ghost read_of = { kv_entry };
 
     fn read(alloc: Global, bytes: &[u8]) -> Result<KvEntry, NoMemory> {
-        entry_of(alloc, Source::Body(bytes))
+        entry_of(alloc, Parts::of(bytes))
     }
 }
 
@@ -221,7 +240,7 @@ impl Embedded for WatchKeyOutput {
 
     fn read(alloc: Global, bytes: &[u8]) -> Result<WatchKeyOutput, NoMemory> {
         Ok(WatchKeyOutput {
-            changed: last_number(0, 1, bytes) != 0,
+            changed: Parts::of(bytes).number1 != 0,
             entry: given_entry(alloc, 2, bytes)?,
         })
     }

@@ -1,5 +1,5 @@
 // What was read and isn't answered yet.
-use dkv_base::NoMemory;
+use dkv_base::{Bytes, NoMemory};
 use std::alloc::Global;
 use std::marker::Model;
 
@@ -21,16 +21,6 @@ impl Model for Input {
 }
 
 ghost use Rattle.std.specs.Prelude.{◌≡◌, ◌≤◌, [], ◌++◌, length, drop, OnOk, OnErr};
-
-// Takes the first `n` bytes out.
-fn drop_front(bytes: &mut Vec<u8>, n: usize)
-    requires { n ≤ length bytes.old.items }
-    ensures { bytes.new.items ≡ drop n bytes.old.items }
-{
-    let rest = bytes.len() - n;
-    bytes.copy_within(n.., 0);
-    bytes.truncate(rest);
-}
 
 impl Input {
     pub(crate) fn new(alloc: Global) -> Input
@@ -56,17 +46,17 @@ impl Input {
         self.from += n;
     }
 
-    /// Adds these bytes behind the others, which move to the front first where bytes before them were
-    /// passed over.
-    pub(crate) fn extend(&mut self, piece: &[u8]) -> Result<(), NoMemory>
+    /// Adds these bytes behind the others. Where bytes before those were passed over, all move to a new place.
+    pub(crate) fn extend(&mut self, alloc: Global, piece: &[u8]) -> Result<(), NoMemory>
         ensures ok { OnOk result (self.new ≡ self.old ++ piece.now) }
         ensures err { OnErr result (self.new ≡ self.old) }
     {
         if self.from > 0 {
-            drop_front(&mut self.bytes, self.from);
+            self.bytes = Bytes::joined(alloc, self.as_slice(), piece)?.into_vec();
             self.from = 0;
+        } else {
+            self.bytes.extend_from_slice(piece)?;
         }
-        self.bytes.extend_from_slice(piece)?;
         Ok(())
     }
 }

@@ -12,7 +12,7 @@ ghost use Rattle.dkv_pipe.specs.Running.{Running, OnOrEnds, IsWholeOf, to_do};
 use crate::answers::{Unanswered, answer};
 use crate::frames::{Head, Look, look_at};
 use crate::input::Input;
-use crate::sizes::{BODY_PLACE, MAX_PLACE};
+use crate::sizes::{BODY_PLACE, MAX_PLACE, PIECE_BYTES};
 use dkv_core::Core;
 use dkv_io::{Got, Sink, Source};
 use std::alloc::Global;
@@ -50,8 +50,13 @@ struct Pipe {
 }
 
 impl Pipe {
-    // Takes more of the source into the input, which has less than a frame.
-    fn more<S: Source>(&mut self, source: &mut S) -> Progress
+    // Takes more of the source into the input, which has less than a frame, by way of the piece.
+    fn more<S: Source>(
+        &mut self,
+        alloc: Global,
+        source: &mut S,
+        piece: &mut [u8; PIECE_BYTES],
+    ) -> Progress
         requires part { front self.old.input ≡ Partial }
         requires early { self.old.at < MAX_PLACE }
         ensures run { (from : Situation) (before : Streams) (held : Option (List ℕ)) →
@@ -69,9 +74,8 @@ impl Pipe {
         ensures core { self.new.core ≡ self.old.core }
         ensures grows { OnOrEnds result (length self.old.input < length self.new.input) (λ _. ⊤) }
     {
-        let mut piece = [0u8; 65536];
-        match source.read(&mut piece) {
-            Got::Bytes(n) => match self.input.extend(&piece[..n]) {
+        match source.read(piece) {
+            Got::Bytes(n) => match self.input.extend(alloc, &piece[..n]) {
                 Ok(()) => Progress::On,
                 Err(_) => Progress::Ends(PipeEnd::NoMemory),
             },
@@ -127,7 +131,13 @@ impl Pipe {
     }
 
     // Reads once more, or answers one frame.
-    fn step<S: Source, K: Sink>(&mut self, alloc: Global, source: &mut S, sink: &mut K) -> Progress
+    fn step<S: Source, K: Sink>(
+        &mut self,
+        alloc: Global,
+        source: &mut S,
+        sink: &mut K,
+        piece: &mut [u8; PIECE_BYTES],
+    ) -> Progress
         requires { self.old.core.state.number < 2 ^ 63 + self.old.at }
         ensures run { (from : Situation) (before : Streams) →
             let old = streams (S.left source.old) (S.ended source.old) (K.held sink.old) in
@@ -152,7 +162,7 @@ impl Pipe {
             return Progress::Ends(PipeEnd::BadFrame { at: self.at });
         }
         match look_at(self.input.as_slice()) {
-            Look::Partial => self.more(source),
+            Look::Partial => self.more(alloc, source, piece),
             Look::Refused => Progress::Ends(PipeEnd::BadFrame { at: self.at }),
             Look::Whole(head) => self.frame(alloc, sink, head),
         }
@@ -189,8 +199,9 @@ pub fn run_pipe<S: Source, K: Sink>(
         input: Input::new(alloc),
         at: 0,
     };
+    let mut piece = [0; PIECE_BYTES];
     let end = loop {
-        match pipe.step(alloc, source, sink) {
+        match pipe.step(alloc, source, sink, &mut piece) {
             Progress::On => {}
             Progress::Ends(end) => break end,
         }

@@ -8,7 +8,7 @@ ghost use Rattle.dkv_pipe.specs.ReplyFrames.{answer_bytes, limit_bytes, malforme
 use crate::reply_status::ReplyStatus;
 use crate::sizes::ID_BYTES;
 use dkv_base::{Bytes, Call, Limit, Message, NoMemory};
-use dkv_msgs::written_reply;
+use dkv_msgs::written_body;
 use std::alloc::Global;
 
 /// A whole reply frame: the length of what follows in four bytes, the status and the body.
@@ -20,7 +20,11 @@ pub(crate) fn reply_frame(
     ensures { IfOk result (λ frame. frame ≡ reply_bytes status body.now) }
 {
     let [a, b, c, d, ..] = (body.len() as u64 + 1).to_le_bytes();
-    Bytes::joined(alloc, &[a, b, c, d, status.code()], body)
+    let head = [a, b, c, d, status.code()];
+    let mut frame = Vec::with_capacity(alloc, head.len() + body.len())?;
+    frame.extend_from_slice(&head)?;
+    frame.extend_from_slice(body)?;
+    Ok(Bytes::of(frame))
 }
 
 /// The reply to a body that is malformed at this place, counted in bytes from its start.
@@ -42,10 +46,7 @@ pub(crate) fn made(alloc: Global, call: &Call, n: u64) -> Result<Bytes, NoMemory
     ensures { IfOk result (λ frame. frame ≡ answer_bytes (made_answer call.now n)) }
 {
     match call {
-        Call::Write(_) => {
-            let body = written_reply(alloc, n)?;
-            reply_frame(alloc, ReplyStatus::Done, body.as_slice())
-        }
+        Call::Write(_) => reply_frame(alloc, ReplyStatus::Done, &written_body(n)),
         Call::Ack(_) => reply_frame(alloc, ReplyStatus::Done, &n.to_le_bytes()),
         Call::Fail(_) => reply_frame(alloc, ReplyStatus::Done, &n.to_le_bytes()),
     }

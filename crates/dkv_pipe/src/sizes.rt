@@ -28,3 +28,6 @@ pub const MAX_FRAME_BYTES: usize = LENGTH_BYTES + MAX_LENGTH;
 
 /// No frame begins at this place of an input or behind it, so that commits never run out of numbers.
 pub const MAX_PLACE: u64 = 1 << 63;
+
+/// The most bytes of one read of the input.
+pub const PIECE_BYTES: usize = 65536;

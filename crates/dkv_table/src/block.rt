@@ -10,6 +10,7 @@ ghost use Rattle.dkv_table.specs.Blocks.{begins_upto, is_filled};
 use crate::place::first_from;
 use crate::sorted::{look_up, range, store, take_out};
 use dkv_base::{Entry, NoMemory};
+use dkv_key::compare;
 use std::alloc::Global;
 use std::marker::Model;
 
@@ -63,7 +64,7 @@ impl Block {
         ensures { result ≡ begins_upto key.now self.now }
     {
         match self.entries.first() {
-            Some(first) => first.key.as_slice().cmp(key).is_le(),
+            Some(first) => compare(first.key.as_slice(), key).is_le(),
             None => false,
         }
     }

@@ -4,6 +4,7 @@ ghost use Rattle.dkv_base.specs.State.{key_cmp, is_in_key_order};
 ghost use Rattle.dkv_table.specs.Places.{IsAt, IsGap, IsStart};
 
 use dkv_base::Entry;
+use dkv_key::compare;
 use std::cmp::Ordering;
 
 // Where the key's entry is, or where it would go.
@@ -15,7 +16,7 @@ pub(crate) fn place(entries: &[Entry], key: &[u8]) -> Result<usize, usize>
     entries.binary_search_by(
         |entry: &Entry| -> Ordering
             ensures { result ≡ key_cmp entry.now.key key.entry.now }
-        { entry.key.as_slice().cmp(key) },
+        { compare(entry.key.as_slice(), key) },
     )
 }
 

@@ -43,11 +43,18 @@ fn varint_of(more: u8, bytes: &[u8]) -> Option<(u64, &[u8])>
     }
 }
 
+// The number at the front. Most have one byte.
 #[tactic(auto, unfolding(crate::specs::Reading::varint_at))]
 pub(crate) fn varint(bytes: &[u8]) -> Option<(u64, &[u8])>
     ensures { Finds (λ x. (x.0, x.1.now)) result (varint_at bytes.now) }
 {
-    varint_of(MAX_VARINT_BYTES, bytes)
+    match bytes {
+        [b, rest @ ..] if *b < 128 => Some((u64::from(*b), rest)),
+        _ => {
+            let (number, rest) = varint_of(MAX_VARINT_BYTES, bytes)?;
+            Some((number, rest))
+        }
+    }
 }
 
 impl<'a> Varints<'a> {
