@@ -37,8 +37,6 @@ use Rattle.dkv_files.specs.Recovered as Recovered
 use Rattle.dkv_files.specs.Recovered.{Found, first_opening}
 use Rattle.dkv_store.specs.declared.answers.OpenRefusal.{OpenRefusal}
 use Rattle.dkv_store.specs.declared.answers.OpenRefusal.TheVariants as opening
-use Rattle.dkv_store.specs.declared.answers.CreateRefusal.{CreateRefusal}
-use Rattle.dkv_store.specs.declared.answers.CreateRefusal.TheVariants as creating
 use Rattle.dkv_files.specs.Crashes.{Identity, identity, and_then}
 use Rattle.dkv_store.specs.Held.{Hold, Guarded}
 use Rattle.dkv_files.specs.Crashes.{read}
@@ -233,15 +231,6 @@ IsUnopened fa fb opening.NoMemory = Unit {0}
 IsUnopened fa fb opening.NoDatabase = first_opening reads_atomic_write fa fb ≡ Ok Recovered.no_database
 IsUnopened fa fb (opening.Damaged file at) = first_opening reads_atomic_write fa fb ≡ Ok (Recovered.damaged file at)
 IsUnopened fa fb (opening.NotBuilt at) = first_opening reads_atomic_write fa fb ≡ Err at
-
--- one of the two files is open
-abbrev pub IsSomeOpen : List ℕ → List ℕ → Type 0
-IsSomeOpen fa fb = IsTrue (is_open fa || is_open fb)
-
-abbrev pub IsUncreated : List ℕ → List ℕ → CreateRefusal → Type 0
-IsUncreated fa fb creating.DiskFault = Unit {0}
-IsUncreated fa fb creating.NoMemory = Unit {0}
-IsUncreated fa fb creating.Exists = IsSomeOpen fa fb
 
 -- what is in doubt after a fault: nothing, what was, or this commit
 abbrev pub IsOldOrNew : Option Commit → Commit → Option Commit → Type 0
