@@ -11,7 +11,8 @@ use dkv_journal::{OPEN_GATE, set_gate};
 
 /// Whether a file is open. Writes nothing, and takes no memory.
 pub fn is_open<D: Disk>(disk: &mut D) -> Result<bool, Failed>
-    ensures open { WhereTold (D.seen disk.old) (λ file. IfOk result (λ is. is ≡ is_open_file file)) }
+    ensures open { WhereTold (D.seen disk.old) (λ file. IfOk result
+        (λ is. is ≡ is_open_file file)) }
     ensures reads { OnlyReads D.seen D.may_leave D.moment D.left_since disk.old disk.new }
     ensures cause { HasCause (D.faults disk.old) (D.faults disk.new) result }
 {

@@ -42,7 +42,7 @@ fn disk(alloc: Global, bytes: Vec<u8>, fails: &[u64]) -> Result<MemoryDisk, Allo
 fn standing(disk: &mut MemoryDisk) -> (u8, u64) {
     match read_head(disk) {
         Ok(HeadState::Shut) => (0, 0),
-        Ok(HeadState::Stands { head, image }) => (1, head.generation + image),
+        Ok(HeadState::Stands { head, image }) => (1, head.generation.saturating_add(image)),
         Ok(HeadState::Bad { at }) => (2, at),
         Err(_) => (3, 0),
     }
