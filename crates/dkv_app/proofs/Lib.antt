@@ -1,2 +1,6 @@
+mod Answered
+mod CommandWords
+mod OptionWords
+mod PieceLists
 mod Single
 mod Told

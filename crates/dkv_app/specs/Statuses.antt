@@ -21,13 +21,19 @@ told (end.BadFrame at) = status.BadFrame at
 told (end.NotBuilt at) = status.NotBuilt at
 told end.NoMemory = status.NoMemory
 
--- P holds of the end that the status tells, or the words were refused
+-- P holds of the end that the status tells, or the words were refused; a run without files has no other status
 abbrev pub Tells : Status → (PipeEnd → Type 0) → Type 0 → Type 0
 Tells status.Ok P refused = P end.Ok
 Tells status.BadWords P refused = refused
 Tells status.ReadFault P refused = P end.ReadFault
 Tells status.WriteFault P refused = P end.WriteFault
+Tells status.DiskFault P refused = ⊥
+Tells status.NoDatabase P refused = ⊥
+Tells (status.Damaged file at) P refused = ⊥
 Tells (status.BadFrame at) P refused = P (end.BadFrame at)
+Tells status.Exists P refused = ⊥
+Tells (status.Worn n) P refused = ⊥
+Tells status.RandomFault P refused = ⊥
 Tells status.NoMemory P refused = P end.NoMemory
 Tells (status.NotBuilt at) P refused = P (end.NotBuilt at)
 
@@ -42,7 +48,13 @@ number status.Ok = 0
 number status.BadWords = 2
 number status.ReadFault = 3
 number status.WriteFault = 4
+number status.DiskFault = 5
+number status.NoDatabase = 6
+number (status.Damaged file at) = 7
 number (status.BadFrame at) = 8
+number status.Exists = 9
+number (status.Worn n) = 10
+number status.RandomFault = 11
 number status.NoMemory = 14
 number (status.NotBuilt at) = 15
 
@@ -52,7 +64,14 @@ line status.Ok = []
 line status.BadWords = codes "bad words" ++ 10 ∷ []
 line status.ReadFault = codes "read fault" ++ 10 ∷ []
 line status.WriteFault = codes "write fault" ++ 10 ∷ []
+line status.DiskFault = codes "disk fault" ++ 10 ∷ []
+line status.NoDatabase = codes "no database" ++ 10 ∷ []
+line (status.Damaged file at) =
+    codes "damaged: file " ++ decimal file ++ codes " at " ++ decimal at ++ 10 ∷ []
 line (status.BadFrame at) = codes "bad frame at " ++ decimal at ++ 10 ∷ []
+line status.Exists = codes "database exists" ++ 10 ∷ []
+line (status.Worn n) = codes "worn at " ++ decimal n ++ 10 ∷ []
+line status.RandomFault = codes "random fault" ++ 10 ∷ []
 line status.NoMemory = codes "no memory" ++ 10 ∷ []
 line (status.NotBuilt at) = codes "not built at " ++ decimal at ++ 10 ∷ []
 

@@ -6,16 +6,25 @@
 //! command run nothing. `run_here` is the program over the system's own streams, which tell nothing.
 #![tactic(auto)]
 
+mod command;
 mod here;
+mod ids;
+mod options;
+mod pieces;
 mod program;
 mod report;
 mod status;
+mod tells;
 mod top;
 mod words;
 
+pub use command::{Command, CommandError, read_command};
 pub use here::run_here;
+pub use ids::new_id;
+pub use options::{MAX_TRAIL, MIN_TRAIL, Options};
 pub use program::{NoWords, run_program};
 pub use status::{Ended, Pair, Status};
+pub use tells::{tell_created, tell_database};
 pub use top::run_once;
 pub use words::{Words, WordsError, read_words};
 

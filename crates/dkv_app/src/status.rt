@@ -15,8 +15,20 @@ pub enum Status {
     ReadFault,
     /// A write of a reply failed.
     WriteFault,
+    /// A call on a file of the database failed while it was made or opened.
+    DiskFault,
+    /// Neither file of the database is open.
+    NoDatabase,
+    /// File 0 or 1 doesn't stand at this place, counted in bytes from its start.
+    Damaged { file: u8, at: u64 },
     /// No whole frame begins at this place, counted in bytes from the start of the input.
     BadFrame { at: u64 },
+    /// One of the two files is open, so no database is made there.
+    Exists,
+    /// The last commit has this number, 2^62 or above, and no term begins.
+    Worn { n: u64 },
+    /// The system's random bytes failed.
+    RandomFault,
     /// The allocator had no room.
     NoMemory,
     /// The frame at this place isn't answered yet.
@@ -59,7 +71,13 @@ impl Status {
             Status::BadWords => 2,
             Status::ReadFault => 3,
             Status::WriteFault => 4,
+            Status::DiskFault => 5,
+            Status::NoDatabase => 6,
+            Status::Damaged { .. } => 7,
             Status::BadFrame { .. } => 8,
+            Status::Exists => 9,
+            Status::Worn { .. } => 10,
+            Status::RandomFault => 11,
             Status::NoMemory => 14,
             Status::NotBuilt { .. } => 15,
         }

@@ -5,4 +5,6 @@ mod limits;
 mod queue;
 mod reads;
 mod running;
+mod told;
+mod words;
 mod writes;
