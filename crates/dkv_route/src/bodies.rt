@@ -67,7 +67,8 @@ fn read_of(alloc: Global, body: &[u8]) -> Result<Run<ReadRange>, Unplanned>
 }
 
 fn write_of(alloc: Global, body: &[u8]) -> Result<AtomicWrite, Unplanned>
-    ensures wanted { IsWanted write (within write_limit write (reads_atomic_write body.now)) result }
+    ensures wanted { IsWanted write
+        (within write_limit write (reads_atomic_write body.now)) result }
     ensures unlimited { IfOk result (λ w. write_limit w ≡ None) }
 {
     let request = request_atomic_write(alloc, body)?;

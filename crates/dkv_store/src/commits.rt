@@ -29,7 +29,13 @@ impl<D: Disk> Store<D> {
     /// Commits a call of the caller `who` at a moment in milliseconds since 1970. A gate in doubt is mended before anything is
     /// written. After a fault the commit is in doubt or not on the disk, and a doubt joins the trail. Takes memory for the
     /// record, all of it before the first disk call.
-    pub(crate) fn commit_kept(&mut self, alloc: Global, who: u32, at: u64, call: Call) -> Result<Done, Refusal>
+    pub(crate) fn commit_kept(
+        &mut self,
+        alloc: Global,
+        who: u32,
+        at: u64,
+        call: Call,
+    ) -> Result<Done, Refusal>
         requires numbered { self.old.core.state.number < 2 ^ 63 - 1 }
         requires out { IsTrue (may_ask self.old.core call) }
         requires short { IsShort self.old who (effective_at self.old at) call }
@@ -37,16 +43,22 @@ impl<D: Disk> Store<D> {
             (λ d. IsDone self.old who (effective_at self.old at) call d self.new)
             (λ r. IsRefused self.old who (effective_at self.old at) call r self.new) }
         ensures moves { (fa fb : List ℕ) → D.seen self.old.a ≡ Some fa → D.seen self.old.b ≡ Some fb
-            → CommitMoves D.may_leave D.moment D.left_since self.old.who self.old.core.state self.old.doubt (commit_of who (effective_at self.old at) call) self.old.a self.old.b self.new.a self.new.b }
+            → CommitMoves D.may_leave D.moment D.left_since
+            self.old.who self.old.core.state self.old.doubt (commit_of who (effective_at self.old at) call)
+            self.old.a self.old.b self.new.a self.new.b }
         // All memory is taken before the first disk call.
         ensures untouched { result ≡ Err refusal.NoMemory → self.new.a ≡ self.old.a }
-        ensures cause { result ≡ Err refusal.DiskFault → Rose (D.faults self.old.a) (D.faults self.new.a) }
+        ensures cause { result ≡ Err refusal.DiskFault
+            → Rose (D.faults self.old.a) (D.faults self.new.a) }
         // In doubt is the old commit or this one, if one is.
-        ensures doubted { result ≡ Err refusal.DiskFault → IsOldOrNew self.old.doubt (commit_of who (effective_at self.old at) call) self.new.doubt }
+        ensures doubted { result ≡ Err refusal.DiskFault
+            → IsOldOrNew self.old.doubt
+            (commit_of who (effective_at self.old at) call) self.new.doubt }
         ensures told { Told AnyBytes (D.seen self.old.a) (D.seen self.new.a) }
         ensures later { D.faults self.old.a ≤ D.faults self.new.a }
         ensures other { self.new.b ≡ self.old.b }
-        ensures first { (self.new.a_first ≡ self.old.a_first) × (self.new.b_first ≡ self.old.b_first) }
+        ensures first { (self.new.a_first ≡ self.old.a_first)
+            × (self.new.b_first ≡ self.old.b_first) }
         // The acknowledgement of a message that has a place takes no memory.
         ensures free { IsAckWithPlace call self.old.roomless → result ≡ Err refusal.NoMemory → ⊥ }
     {
@@ -80,15 +92,20 @@ impl<D: Disk> Store<D> {
             (λ d. IsDone self.old who at call d self.new)
             (λ r. IsRefused self.old who at call r self.new) }
         ensures moves { (fa fb : List ℕ) → D.seen self.old.a ≡ Some fa → D.seen self.old.b ≡ Some fb
-            → CommitMoves D.may_leave D.moment D.left_since self.old.who self.old.core.state self.old.doubt (commit_of who at call) self.old.a self.old.b self.new.a self.new.b }
+            → CommitMoves D.may_leave D.moment D.left_since
+            self.old.who self.old.core.state self.old.doubt (commit_of who at call)
+            self.old.a self.old.b self.new.a self.new.b }
         // All memory is taken before the first disk call.
         ensures untouched { result ≡ Err refusal.NoMemory → self.new.a ≡ self.old.a }
-        ensures cause { result ≡ Err refusal.DiskFault → Rose (D.faults self.old.a) (D.faults self.new.a) }
-        ensures doubted { result ≡ Err refusal.DiskFault → IsOldOrNew self.old.doubt (commit_of who at call) self.new.doubt }
+        ensures cause { result ≡ Err refusal.DiskFault
+            → Rose (D.faults self.old.a) (D.faults self.new.a) }
+        ensures doubted { result ≡ Err refusal.DiskFault
+            → IsOldOrNew self.old.doubt (commit_of who at call) self.new.doubt }
         ensures told { Told AnyBytes (D.seen self.old.a) (D.seen self.new.a) }
         ensures later { D.faults self.old.a ≤ D.faults self.new.a }
         ensures other { self.new.b ≡ self.old.b }
-        ensures first { (self.new.a_first ≡ self.old.a_first) × (self.new.b_first ≡ self.old.b_first) }
+        ensures first { (self.new.a_first ≡ self.old.a_first)
+            × (self.new.b_first ≡ self.old.b_first) }
         // The acknowledgement of a message that has a place takes no memory.
         ensures free { IsAckWithPlace call self.old.roomless → result ≡ Err refusal.NoMemory → ⊥ }
     {

@@ -26,15 +26,27 @@ pub struct Files<D> {
 /// Closes the gate, if it is in doubt.
 pub fn mend<D: Disk>(files: &mut Files<D>) -> Result<(), Failed>
     requires named { files.old.journal.in_doubt ≡ is_some files.old.doubt }
-    requires within { (fa : List ℕ) → D.seen files.old.pair.a ≡ Some fa → files.old.journal.in_doubt ≡ true → (c : List ℕ) → D.may_leave files.old.pair.a c → files.old.journal.place < length c }
-    ensures moves { (s : State) (who : Identity) (fa fb : List ℕ) → D.seen files.old.pair.a ≡ Some fa → D.seen files.old.pair.b ≡ Some fb
-        → Hold (D.may_leave files.old.pair.a) (Guarded (D.seen files.old.pair.b) (D.may_leave files.old.pair.b)) files.old.journal (option_map (λ d. d.value) files.old.doubt) s who
-        → StatesMove D.may_leave D.moment D.left_since read who (with_doubt s (option_map (λ d. d.value) files.old.doubt)) files.old.pair.a files.old.pair.b files.new.pair.a files.new.pair.b }
+    requires within { (fa : List ℕ) → D.seen files.old.pair.a ≡ Some fa
+        → files.old.journal.in_doubt ≡ true → (c : List ℕ) → D.may_leave files.old.pair.a c
+        → files.old.journal.place < length c }
+    ensures moves { (s : State) (who : Identity) (fa fb : List ℕ)
+        → D.seen files.old.pair.a ≡ Some fa → D.seen files.old.pair.b ≡ Some fb
+        → Hold (D.may_leave files.old.pair.a)
+        (Guarded (D.seen files.old.pair.b) (D.may_leave files.old.pair.b)) files.old.journal
+        (option_map (λ d. d.value) files.old.doubt) s who
+        → StatesMove D.may_leave D.moment D.left_since read who
+        (with_doubt s (option_map (λ d. d.value) files.old.doubt))
+        files.old.pair.a files.old.pair.b files.new.pair.a files.new.pair.b }
     ensures holds { (s : State) (who : Identity) (fa : List ℕ) → D.seen files.old.pair.a ≡ Some fa
-        → Hold (D.may_leave files.old.pair.a) (Guarded (D.seen files.old.pair.b) (D.may_leave files.old.pair.b)) files.old.journal (option_map (λ d. d.value) files.old.doubt) s who
-        → Hold (D.may_leave files.new.pair.a) (Guarded (D.seen files.new.pair.b) (D.may_leave files.new.pair.b)) files.new.journal (option_map (λ d. d.value) files.new.doubt) s who }
+        → Hold (D.may_leave files.old.pair.a)
+        (Guarded (D.seen files.old.pair.b) (D.may_leave files.old.pair.b)) files.old.journal
+        (option_map (λ d. d.value) files.old.doubt) s who
+        → Hold (D.may_leave files.new.pair.a)
+        (Guarded (D.seen files.new.pair.b) (D.may_leave files.new.pair.b)) files.new.journal
+        (option_map (λ d. d.value) files.new.doubt) s who }
     ensures mended { OnOk result ((files.new.journal.in_doubt ≡ false) × (files.new.doubt ≡ None)) }
-    ensures doubted { OnErr result ((files.new.journal ≡ files.old.journal) × (files.new.doubt ≡ files.old.doubt)) }
+    ensures doubted { OnErr result ((files.new.journal ≡ files.old.journal)
+        × (files.new.doubt ≡ files.old.doubt)) }
     ensures other { files.new.pair.b ≡ files.old.pair.b }
     ensures told { Told AnyBytes (D.seen files.old.pair.a) (D.seen files.new.pair.a) }
     ensures cause { HasCause (D.faults files.old.pair.a) (D.faults files.new.pair.a) result }
@@ -51,19 +63,30 @@ pub fn add<D: Disk>(files: &mut Files<D>, laid: &Laid, commit: &Commit) -> Resul
     requires sure { files.old.journal.in_doubt ≡ false }
     requires unnamed { files.old.doubt ≡ None }
     requires spelled { laid.now ≡ laid_of first_layout 0 (record_body commit.now) }
-    requires closed { (fa : List ℕ) → D.seen files.old.pair.a ≡ Some fa → (c : List ℕ) → D.may_leave files.old.pair.a c → IsTrue (is_closed_at files.old.journal.place c) }
-    ensures moves { (s : State) (who : Identity) (fa fb : List ℕ) → D.seen files.old.pair.a ≡ Some fa → D.seen files.old.pair.b ≡ Some fb
-        → Hold (D.may_leave files.old.pair.a) (Guarded (D.seen files.old.pair.b) (D.may_leave files.old.pair.b)) files.old.journal None s who → MayAdd s commit.now
+    requires closed { (fa : List ℕ) → D.seen files.old.pair.a ≡ Some fa → (c : List ℕ)
+        → D.may_leave files.old.pair.a c → IsTrue (is_closed_at files.old.journal.place c) }
+    ensures moves { (s : State) (who : Identity) (fa fb : List ℕ)
+        → D.seen files.old.pair.a ≡ Some fa → D.seen files.old.pair.b ≡ Some fb
+        → Hold (D.may_leave files.old.pair.a)
+        (Guarded (D.seen files.old.pair.b) (D.may_leave files.old.pair.b))
+        files.old.journal None s who → MayAdd s commit.now
         → AddMoves D.may_leave D.moment D.left_since who s commit.now files.old.pair.a files.old.pair.b files.new.pair.a files.new.pair.b }
     ensures holds { (s : State) (who : Identity) (fa : List ℕ) → D.seen files.old.pair.a ≡ Some fa
-        → Hold (D.may_leave files.old.pair.a) (Guarded (D.seen files.old.pair.b) (D.may_leave files.old.pair.b)) files.old.journal None s who → MayAdd s commit.now
+        → Hold (D.may_leave files.old.pair.a)
+        (Guarded (D.seen files.old.pair.b) (D.may_leave files.old.pair.b))
+        files.old.journal None s who → MayAdd s commit.now
         → MatchResult result
-        (λ _. Hold (D.may_leave files.new.pair.a) (Guarded (D.seen files.new.pair.b) (D.may_leave files.new.pair.b)) files.new.journal (option_map (λ d. d.value) files.new.doubt) (and_then s commit.now) who)
-        (λ _. Hold (D.may_leave files.new.pair.a) (Guarded (D.seen files.new.pair.b) (D.may_leave files.new.pair.b)) files.new.journal (option_map (λ d. d.value) files.new.doubt) s who) }
+        (λ _. Hold (D.may_leave files.new.pair.a)
+        (Guarded (D.seen files.new.pair.b) (D.may_leave files.new.pair.b)) files.new.journal
+        (option_map (λ d. d.value) files.new.doubt) (and_then s commit.now) who)
+        (λ _. Hold (D.may_leave files.new.pair.a)
+        (Guarded (D.seen files.new.pair.b) (D.may_leave files.new.pair.b)) files.new.journal
+        (option_map (λ d. d.value) files.new.doubt) s who) }
     ensures named { files.new.journal.in_doubt ≡ is_some files.new.doubt }
     ensures sure { OnOk result (files.new.journal.in_doubt ≡ false) }
     // In doubt is this commit, if one is.
-    ensures doubted { OnErr result ((files.new.doubt ≡ None) ⊎ (option_map (λ d. d.value) files.new.doubt ≡ Some commit.now)) }
+    ensures doubted { OnErr result ((files.new.doubt ≡ None)
+        ⊎ (option_map (λ d. d.value) files.new.doubt ≡ Some commit.now)) }
     ensures other { files.new.pair.b ≡ files.old.pair.b }
     ensures told { Told AnyBytes (D.seen files.old.pair.a) (D.seen files.new.pair.a) }
     ensures cause { HasCause (D.faults files.old.pair.a) (D.faults files.new.pair.a) result }

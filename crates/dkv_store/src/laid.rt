@@ -22,7 +22,8 @@ pub(crate) fn lay(alloc: Global, commit: &Commit) -> Result<(Laid, u64), NoMemor
     requires { record_length commit.now ≤ body_most Narrow }
     ensures spelled { IfOk result (λ l. l.0 ≡ laid_of first_layout 0 (record_body commit.now)) }
     ensures weighed { IfOk result (λ l. l.1 ≡ item_weight (Made commit.now)) }
-    ensures back { OnOk result (read_as reads_atomic_write (record_body commit.now) ≡ Some commit.now) }
+    ensures back { OnOk result (read_as reads_atomic_write (record_body commit.now)
+        ≡ Some commit.now) }
 {
     let body = write_commit(alloc, commit)?;
     let laid = Journal::lay(alloc, body.as_slice())?;

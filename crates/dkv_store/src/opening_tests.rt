@@ -85,13 +85,21 @@ fn a_record_is_made_again_or_damaged(rt: HostRuntime) -> Result<(), Fail> {
         assert_eq!(rt; opened(rt.alloc(), bytes, Vec::new(rt.alloc())), want);
     }
     let bytes = file(rt.alloc(), 112, SETTLED)?;
-    assert_eq!(rt; opened(rt.alloc(), bytes, Vec::new(rt.alloc())), (2, 0, 112));
+    assert_eq!(rt;
+        opened(rt.alloc(), bytes, Vec::new(rt.alloc())),
+        (2, 0, 112)
+    );
     Ok(())
 }
 
 #[test]
 fn what_is_not_built_yet_is_refused_at_its_place(rt: HostRuntime) -> Result<(), Fail> {
-    let rows = [(72, (3, 72, 0)), (80, (3, 80, 0)), (111, (3, 80, 0)), (8, (2, 0, 8))];
+    let rows = [
+        (72, (3, 72, 0)),
+        (80, (3, 80, 0)),
+        (111, (3, 80, 0)),
+        (8, (2, 0, 8)),
+    ];
     for (place, want) in rows {
         let mut bytes = file(rt.alloc(), 113, b"")?;
         if place < bytes.len() {

@@ -23,8 +23,10 @@ impl<D: Disk> Store<D> {
         ranges: &[ReadRange],
     ) -> Result<Run<Run<Entry>>, NoMemory>
         requires unlimited { read_limit ranges.now ≡ None }
-        ensures reply { IfOk result (λ answer. answer ≡ read_reply self.old.core.state (effective_at self.old at) ranges.now) }
-        ensures content { self.new ≡ record self.old { core = record self.old.core { greatest = effective_at self.old at } } }
+        ensures reply { IfOk result (λ answer. answer
+            ≡ read_reply self.old.core.state (effective_at self.old at) ranges.now) }
+        ensures content { self.new
+            ≡ record self.old { core = record self.old.core { greatest = effective_at self.old at } } }
     {
         let at = self.core.moment(at);
         self.core.raise(at);

@@ -14,7 +14,8 @@ impl<D: Disk> Store<D> {
     /// Takes the message that is due first, and makes room for one settlement of it. Touches no disk. Takes memory for a copy of
     /// the message and for that room.
     pub(crate) fn take_kept(&mut self, alloc: Global, who: u32, at: u64) -> Result<Taken, Refusal>
-        ensures taken { IfOk result (λ taken. IsTake self.old who (effective_at self.old at) taken self.new) }
+        ensures taken { IfOk result
+            (λ taken. IsTake self.old who (effective_at self.old at) taken self.new) }
         ensures refused { MatchResult result (λ _. ⊤)
             (λ r. (r ≡ refusal.NoMemory) × IsRaisedTo self.old.core.greatest self.old self.new) }
         ensures disks { SameDisks self.old self.new }
