@@ -1,6 +1,7 @@
 //! The database over two files: a core whose every commit is on the disk before it is answered.
 //!
-//! The layer above may rely on this.
+//! The layer above may rely on this: a store is opened as what its two files recover to; each call answers as a step of the one-thread
+//! database, and says what a stop at any moment of it leaves of the files; what a store keeps throughout, `is_kept` says.
 #![tactic(auto)]
 
 mod again;
@@ -20,12 +21,8 @@ mod takes;
 mod tells;
 mod trail;
 
-pub use again::remake;
 pub use answers::{Done, OpenRefusal, Refusal};
-pub use held::{Files, add, mend};
-pub use keep::write;
 pub use opening::open_store;
-pub use recall::Recall;
 pub use store::Store;
 pub use tells::{Counts, Identity};
 pub use trail::MAX_TRAIL_BYTES;
