@@ -29,4 +29,5 @@ pub use trail::MAX_TRAIL_BYTES;
 
 #[cfg(test)]
 mod opening_tests;
+#[cfg(test)]
 mod tests;
