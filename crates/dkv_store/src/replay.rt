@@ -15,7 +15,7 @@ use dkv_journal::{Journal, ScanRefusal};
 use std::alloc::Global;
 
 // The place of the first gate behind the header and an empty image, in bytes.
-const FIRST_GATE: u64 = 112;
+pub(crate) const FIRST_GATE: u64 = 112;
 
 // Why the records were not made again.
 #[derive(Clone, Copy)]

@@ -8,6 +8,7 @@ ghost use Rattle.dkv_store.specs.declared.trail.TheConstants.{MAX_TRAIL_BYTES};
 
 use crate::held::Files;
 use crate::recall::Recall;
+use crate::replay::FIRST_GATE;
 use crate::trail::Trail;
 use dkv_base::{Item, NoMemory, Run};
 use dkv_core::Core;
@@ -16,9 +17,6 @@ use dkv_io::Disk;
 use dkv_journal::Journal;
 use std::alloc::Global;
 use std::marker::Model;
-
-// The place of the first gate behind the header and an empty image, in bytes.
-const FIRST_GATE: u64 = 112;
 
 /// The database over two files: the core, the items of this term, and the files, which stand for the core's state at each moment.
 #[derive(Drop)]
