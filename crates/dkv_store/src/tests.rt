@@ -54,18 +54,14 @@ impl Disk for Quiet {
         self.disk.read(at, into)
     }
 
-    // Past the end nothing is written.
+    // What is written past the end joins it.
     fn write_at(&mut self, at: u64, bytes: &[u8]) -> Result<(), Failed> {
-        if at > self.disk.bytes().len() as u64 {
-            return Ok(());
-        }
+        let at = at.min(self.disk.bytes().len() as u64);
         self.disk.write_at(at, bytes)
     }
 
     fn cut(&mut self, len: u64) -> Result<(), Failed> {
-        if len > self.disk.bytes().len() as u64 {
-            return Ok(());
-        }
+        let len = len.min(self.disk.bytes().len() as u64);
         self.disk.cut(len)
     }
 
