@@ -31,7 +31,6 @@ use Rattle.dkv_heads.proofs.Opens.{start_open, fields_open}
 use Rattle.dkv_heads.proofs.ChunkLines.{size_open}
 use Rattle.dkv_heads.proofs.Sections.{trailers_none, trailers_never, trailers_may}
 
-
 -- ---- no head yet
 
 pub head_open : (a : HeadAt) (bytes : List ℕ) → IsHead a bytes → IsOpen bytes

@@ -30,7 +30,6 @@ use Rattle.dkv_heads.proofs.Apart.{content_bytes, dropped, lt_false}
 use Rattle.dkv_heads.proofs.Opens.{start_open, fields_open}
 use Rattle.dkv_heads.proofs.ChunkLines.{size_open}
 use Rattle.dkv_heads.proofs.Sections.{trailers_none, trailers_never, trailers_may}
-
 use Rattle.dkv_http.proofs.Headless.{refused_behind}
 
 -- ---- behind a head
