@@ -7,9 +7,8 @@ use Rattle.std.proofs.lemmas.Bool.{and_parts}
 use Rattle.dkv_base.specs.declared.types.Commit.{Commit}
 use Rattle.dkv_base.specs.declared.types.Message.{Message}
 use Rattle.dkv_base.specs.State.{State}
-use Rattle.dkv_base.specs.Messages.{acks, fails, as_after, is_pending}
+use Rattle.dkv_base.specs.Messages.{acks, as_after, is_pending}
 use Rattle.dkv_base.specs.After.{after}
-use Rattle.dkv_base.specs.Trails.{commits}
 use Rattle.dkv_base.specs.Sound.{IsSound, is_waiting, is_payload, is_number}
 use Rattle.dkv_base.specs.Laws.{AfterNothing}
 

@@ -1,5 +1,5 @@
 -- What every step of a term keeps.
-use Rattle.std.proofs.Common.{◌≡◌, ℕ, ◌+◌, ◌≤◌, true, not, List, [], ◌∷◌, ◌++◌, filter, refl, sym, ap, ◌∙◌, subst, arith}
+use Rattle.std.proofs.Common.{◌≡◌, ℕ, ◌≤◌, true, not, List, [], ◌∷◌, ◌++◌, filter, refl, sym, ap, ◌∙◌, subst, arith}
 use Rattle.std.specs.Prelude.{nat_le}
 use Rattle.std.proofs.lemmas.List.{append-nil}
 use Rattle.std.proofs.lemmas.List.Sums.{fold-append}
@@ -10,7 +10,7 @@ use Rattle.dkv_base.specs.declared.types.MsgId.{MsgId}
 use Rattle.dkv_base.specs.State.{State}
 use Rattle.dkv_base.specs.After.{after, is_legal, is_legal_in}
 use Rattle.dkv_base.specs.Trails.{commits, commits_of, out, takes, settles, item_moment, greatest, may_stand, items_legal_from}
-use Rattle.dkv_base.specs.Steps.{Situation, Watching, doubted, step}
+use Rattle.dkv_base.specs.Steps.{Situation, Watching, doubted}
 use Rattle.dkv_base.specs.Sound.{IsSound}
 use Rattle.dkv_base.proofs.Lists.{filter_all}
 use Rattle.dkv_base.specs.declared.moments.TheConstants.{MAX_MOMENT}

@@ -16,15 +16,15 @@ use Rattle.dkv_base.specs.State.{State, is_empty, seen}
 use Rattle.dkv_base.specs.Messages.{acks, fails, known}
 use Rattle.dkv_base.specs.Writes.{failing, mutated_all}
 use Rattle.dkv_base.specs.After.{after, is_legal_in}
-use Rattle.dkv_base.specs.Trails.{out, settles, weight, greatest, is_stop, first_stop}
+use Rattle.dkv_base.specs.Trails.{out, weight, is_stop, first_stop}
 use Rattle.dkv_base.specs.Replies.{said, stopped, full, limited, fails_reply, write_reply_in}
-use Rattle.dkv_base.specs.Steps.{Situation, raised, committed, answered}
+use Rattle.dkv_base.specs.Steps.{Situation, raised, committed}
 use Rattle.dkv_base.specs.Sound.{IsSound}
 use Rattle.dkv_base.specs.declared.moments.TheConstants.{MAX_MOMENT}
 use Rattle.dkv_base.specs.declared.types.Answer.TheVariants as answer
 use Rattle.dkv_base.specs.declared.types.Commit.TheVariants as commit
 use Rattle.dkv_base.specs.declared.types.Item.TheVariants as item
-use Rattle.dkv_base.proofs.AfterNothing.{FailsFit, fit, fit_filter}
+use Rattle.dkv_base.proofs.AfterNothing.{FailsFit, fit_filter}
 use Rattle.dkv_base.proofs.NamedMessages.{AllNamed, still_named}
 use Rattle.dkv_base.proofs.Kept.{Kept, kept_grown, nothing_settled, legal_more, state_more}
 

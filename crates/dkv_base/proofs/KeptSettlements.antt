@@ -9,13 +9,13 @@ use Rattle.dkv_base.specs.declared.types.MsgId.{MsgId}
 use Rattle.dkv_base.specs.State.{State, same_id}
 use Rattle.dkv_base.specs.Messages.{acks, fails, moment_of, known, is_out}
 use Rattle.dkv_base.specs.After.{after, is_legal_in, is_pending_id, may_make}
-use Rattle.dkv_base.specs.Trails.{out, settles, greatest, may_stand}
+use Rattle.dkv_base.specs.Trails.{out, settles, may_stand}
 use Rattle.dkv_base.specs.Steps.{Situation, raised, settled, settlement}
 use Rattle.dkv_base.specs.Sound.{IsSound}
 use Rattle.dkv_base.proofs.Lists.{or_false, filter-cong}
 use Rattle.dkv_base.specs.declared.moments.TheConstants.{MAX_MOMENT}
 use Rattle.dkv_base.specs.declared.types.Item.TheVariants as item
-use Rattle.dkv_base.proofs.AfterNothing.{fit, fit_filter}
+use Rattle.dkv_base.proofs.AfterNothing.{fit_filter}
 use Rattle.dkv_base.proofs.NamedMessages.{AllNamed, named_in}
 use Rattle.dkv_base.proofs.Kept.{Kept, kept_grown, legal_more, state_more}
 use Rattle.dkv_base.proofs.KeptCommits.{Spares, still_all}

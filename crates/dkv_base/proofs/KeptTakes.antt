@@ -1,5 +1,5 @@
 -- A take keeps it.
-use Rattle.std.proofs.Common.{◌≡◌, ℕ, ◌+◌, ◌≤◌, Bool, true, false, cond, not, List, [], ◌∷◌, ◌++◌, filter, Option, Some, None, refl, sym, ap, ◌∙◌, subst, ⊎_elim, arith}
+use Rattle.std.proofs.Common.{◌≡◌, ℕ, ◌≤◌, Bool, true, false, cond, not, List, [], ◌∷◌, ◌++◌, filter, Option, Some, None, refl, sym, ap, ◌∙◌, subst, ⊎_elim, arith}
 use Rattle.std.specs.Prelude.{nat_lt, option_map, unwrap_or}
 use Rattle.std.specs.List.{list_any}
 use Rattle.std.specs.Option.{option_map_or}
@@ -8,14 +8,13 @@ use Rattle.dkv_base.specs.declared.types.Message.{Message}
 use Rattle.dkv_base.specs.declared.types.MsgId.{MsgId}
 use Rattle.dkv_base.specs.Limits.{first_some}
 use Rattle.dkv_base.specs.State.{State, same_id}
-use Rattle.dkv_base.specs.Trails.{out, weight, greatest, is_stop, first_stop, has_room}
+use Rattle.dkv_base.specs.Trails.{out, weight, is_stop, first_stop, has_room}
 use Rattle.dkv_base.specs.Replies.{Reply, said, stopped, full}
-use Rattle.dkv_base.specs.Steps.{Situation, raised, answered, take_reply, next_moment, handed_out}
+use Rattle.dkv_base.specs.Steps.{Situation, raised, take_reply, next_moment, handed_out}
 use Rattle.dkv_base.specs.declared.moments.TheConstants.{MAX_MOMENT}
 use Rattle.dkv_base.specs.Messages.{next, first_due, waiting, is_before}
 use Rattle.dkv_base.specs.declared.types.Answer.TheVariants as answer
 use Rattle.dkv_base.specs.declared.types.Item.TheVariants as item
-use Rattle.dkv_base.proofs.AfterNothing.{fit}
 use Rattle.dkv_base.proofs.NamedMessages.{same_id_self, named, AllNamed-append}
 use Rattle.dkv_base.proofs.Kept.{Kept, kept_grown, no_commits, no_commits_legal, nothing_settled}
 use Rattle.dkv_base.proofs.KeptCommits.{not_none, no_stop}

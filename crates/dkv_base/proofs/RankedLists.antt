@@ -1,11 +1,11 @@
 -- A look-up, a put and a removal in a list whose first items rank below, or whose last rank above.
-use Rattle.std.proofs.Common.{◌≡◌, ℕ, zero, suc, ◌<◌, length, get_or, arith, Bool, true, cond, not, List, [], ◌∷◌, ◌++◌, Some, None, refl, ap, ◌∙◌}
+use Rattle.std.proofs.Common.{◌≡◌, Bool, true, cond, not, List, [], ◌∷◌, ◌++◌, Some, None, refl, ap, ◌∙◌}
 use Rattle.std.specs.List.{list_all}
 use Rattle.std.specs.Ordering.{is_lt, is_eq, match_ordering}
 use Rattle.std.specs.declared.cmp.Ordering.{Ordering}
 use Rattle.std.specs.declared.cmp.Ordering.TheVariants.{Equal}
 use Rattle.std.specs.Cmp.{IsTotalOrder}
-use Rattle.std.proofs.lemmas.Bool.{and_parts, and_from}
+use Rattle.std.proofs.lemmas.Bool.{and_parts}
 use Rattle.dkv_base.specs.Ordered.{found, above, put_in, left_out}
 use Rattle.dkv_base.proofs.Lists.{all_weaker}
 use Rattle.dkv_base.proofs.Ranks.{lt_is, greater, not_eq-below, not_lt-below, not_eq-above, lt_lt, eq_lt, lt_eq}

@@ -9,9 +9,8 @@ use Rattle.dkv_base.specs.declared.types.Enqueue.{Enqueue}
 use Rattle.dkv_base.specs.declared.types.Entry.{Entry}
 use Rattle.dkv_base.specs.declared.types.Message.{Message}
 use Rattle.dkv_base.specs.declared.types.Value.{Value}
-use Rattle.dkv_base.specs.State.{State, visible}
+use Rattle.dkv_base.specs.State.{State}
 use Rattle.dkv_base.specs.Messages.{pending, known, as_after, is_pending, made_from, made_by, enqueues_of, moment_of, acks}
-use Rattle.dkv_base.specs.Writes.{stored}
 use Rattle.dkv_base.specs.After.{entries_from, entries_after, moment_after}
 use Rattle.dkv_base.specs.Sound.{IsSound, is_good_key, is_good_value, is_number, is_stored, is_payload, is_waiting}
 use Rattle.dkv_base.proofs.SoundEntries.{Good, good_seen, AllAsk, good_changed}

@@ -12,7 +12,7 @@ use Rattle.dkv_base.specs.Limits.{when, first_some, write_limit, enqueue_limit, 
 use Rattle.dkv_base.specs.State.{State, is_empty, seen}
 use Rattle.dkv_base.specs.Messages.{pending, known, as_after, is_pending, made, made_from, made_by, enqueues_of, moment_of, schedule_of}
 use Rattle.dkv_base.specs.Writes.{failing}
-use Rattle.dkv_base.specs.After.{after, undelivered, is_legal_from, is_legal_in, may_make}
+use Rattle.dkv_base.specs.After.{after, is_legal_from, is_legal_in, may_make}
 use Rattle.dkv_base.specs.Sound.{IsSound, is_good_key, is_number, is_schedule, is_payload, is_waiting}
 use Rattle.dkv_base.specs.declared.limits.TheConstants.{MAX_VALUE_BYTES}
 use Rattle.dkv_base.specs.declared.types.Profile.TheVariants.{Narrow}

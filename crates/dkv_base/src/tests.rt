@@ -1,6 +1,7 @@
 // With ample memory each copy succeeds, and prints as what was copied.
 use super::*;
 use std::alloc::Global;
+use std::cmp::Ordering;
 use std::fmt::Debug;
 use std::process::Abort;
 use std::test::Fail;
@@ -150,6 +151,25 @@ fn bytes_are_joined_and_codes_and_numbers_are_the_stated_ones(rt: HostRuntime) -
         (i64::MAX, 9_223_372_036_854_775_807),
     ] {
         assert_eq!(rt; from_zero(number), cut);
+    }
+    Ok(())
+}
+
+#[test]
+fn keys_compare_by_their_bytes(rt: HostRuntime) -> Result<(), Fail> {
+    for (key, other, order) in [
+        (&b""[..], &b"a"[..], Ordering::Less),
+        (b"abcdefgh", b"abcdefghi", Ordering::Less),
+        (b"abcdefgi", b"abcdefhh", Ordering::Less),
+        (b"zbcdefgh", b"abcdefghi", Ordering::Greater),
+        (
+            b"abcdefghabcdefgh\x80",
+            b"abcdefghabcdefgh\x7f",
+            Ordering::Greater,
+        ),
+        (b"abcdefghi", b"abcdefghi", Ordering::Equal),
+    ] {
+        assert_eq!(&rt; compare(key, other), order);
     }
     Ok(())
 }

@@ -6,7 +6,7 @@ use Rattle.std.proofs.lemmas.List.{take_more}
 use Rattle.dkv_base.specs.State.{key_cmp}
 use Rattle.dkv_key.specs.Parts.{escaped}
 use Rattle.dkv_key.specs.Reading.{StartsBelowFF, HasText}
-use Rattle.dkv_key.proofs.Orders.{then_assoc, then_first, then_second, same_keys, key_cmp-equal, first_less, first_greater}
+use Rattle.dkv_base.proofs.Orders.{then_assoc, then_first, then_second, same_keys, key_cmp-equal, first_less, first_greater}
 
 pub escaped-append : (xs ys : List ℕ) → escaped (xs ++ ys) ≡ escaped xs ++ escaped ys
 escaped-append [] ys = refl

@@ -10,7 +10,7 @@ use Rattle.dkv_key.specs.declared.part.Part.{Part}
 use Rattle.dkv_key.specs.declared.part.Part.TheVariants as part
 use Rattle.dkv_key.specs.Parts.{IsPart, AreParts, HasMore, spelling, key, part_cmp, parts_cmp, range_start, range_end}
 use Rattle.dkv_key.specs.Reading.{StartsBelowFF, MayFollow, Begins, NoPart, IsFront, IsKey, FirstFault, NoKey}
-use Rattle.dkv_key.proofs.Orders.{ranked, key_cmp-same, first_less, first_greater, first_equal, same_length}
+use Rattle.dkv_base.proofs.Orders.{ranked, key_cmp-same, first_less, first_greater, first_equal, same_length}
 use Rattle.dkv_key.proofs.PartOrder.{head_of, part_order, one_part}
 
 may_follow : (p : Part) (rest : List ℕ) → StartsBelowFF rest → MayFollow p rest

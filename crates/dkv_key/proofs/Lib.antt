@@ -1,9 +1,7 @@
-mod Orders
 mod Escapes
 mod Numbers
 mod Doubles
 mod PartOrder
 mod Fronts
 mod Stamping
-mod Words
 mod Finding

@@ -6,54 +6,11 @@ use Rattle.std.specs.declared.cmp.Ordering.TheVariants.{Less, Equal, Greater}
 use Rattle.std.proofs.lemmas.Bool.{lt-ltb, le-ltb}
 use Rattle.std.proofs.Math.Nat.{pow-succ', mul-le-mul_right}
 use Rattle.dkv_base.specs.State.{key_cmp}
-use Rattle.dkv_base.proofs.ByteLists.{below_tail}
 use Rattle.hex.specs.Hex.{IsBytes}
-use Rattle.dkv_key.specs.Parts.{HasNoLeadingZero, number}
-use Rattle.dkv_key.proofs.Orders.{nat_less, nat_equal, nat_greater, ranked, ranked_alike}
-
--- so many bytes write numbers below this
-pub number_below : (a : List ℕ) → IsBytes a → number a < 256 ^ length a
-number_below [] all = omega arith
-number_below (b ∷ a) all =
-    let low = number_below a (below_tail b a all) in
-    let top : b ≤ 255 = omega (arith, all 0) in
-    let product : b * 256 ^ length a ≤ 255 * 256 ^ length a = mul-le-mul_right (256 ^ length a) top in
-    let power : 256 ^ suc (length a) ≡ 256 * 256 ^ length a = pow-succ' 256 (length a) in
-    omega (arith, low, product, power)
-
-step_up : (x y w n m : ℕ) → x < y → n < w → x * w + n < y * w + m
-step_up x y w n m lt low =
-    let product : suc x * w ≤ y * w = mul-le-mul_right w lt in
-    let parts : suc x * w ≡ w + x * w = omega arith in
-    omega (arith, product, parts, low)
-
--- numbers of as many bytes compare by these
-pub number_order : (a b : List ℕ) → IsBytes a → IsBytes b → length a ≡ length b → nat_cmp (number a) (number b) ≡ key_cmp a b
-number_order [] [] f g e = refl
-number_order [] (y ∷ b) f g e = absurd (omega (arith, e))
-number_order (x ∷ a) [] f g e = absurd (omega (arith, e))
-number_order (x ∷ a) (y ∷ b) f g e =
-    let sizes : length a ≡ length b = omega (arith, e) in
-    let powers : 256 ^ length a ≡ 256 ^ length b = ap (λ (n : ℕ). 256 ^ n) sizes in
-    let low = number_below a (below_tail x a f) in
-    let high = number_below b (below_tail y b g) in
-    let same : number (y ∷ b) ≡ y * 256 ^ length a + number b = ap (λ (n : ℕ). y * n + number b) (sym powers) in
-    let rest = number_order a b (below_tail x a f) (below_tail y b g) sizes in
-    ap (nat_cmp (number (x ∷ a))) same
-    ∙ elim (ranked x y) [
-      | inl lt ↦ nat_less _ _ (step_up x y (256 ^ length a) (number a) (number b) lt low) ∙ ap (λ o. ordering_then o (key_cmp a b)) (sym (nat_less x y lt))
-      | inr more ↦
-          elim more [
-            | inl is ↦
-                ap (λ (n : ℕ). nat_cmp (n * 256 ^ length a + number a) (y * 256 ^ length a + number b)) is
-                ∙ ranked_alike (y * 256 ^ length a + number a) (y * 256 ^ length a + number b) (number a) (number b) (λ lt. omega (arith, lt)) (λ eq. omega (arith, eq)) (λ gt. omega (arith, gt))
-                ∙ rest
-                ∙ ap (λ o. ordering_then o (key_cmp a b)) (sym (nat_equal x y is))
-            | inr gt ↦
-                nat_greater _ _ (step_up y x (256 ^ length a) (number b) (number a) gt (omega (arith, high, powers)))
-                ∙ ap (λ o. ordering_then o (key_cmp a b)) (sym (nat_greater x y gt))
-          ]
-    ]
+use Rattle.dkv_base.specs.Stamps.{number}
+use Rattle.dkv_base.proofs.Orders.{nat_less, nat_equal, nat_greater, ranked}
+use Rattle.dkv_base.proofs.Words.{number_below, number_order}
+use Rattle.dkv_key.specs.Parts.{HasNoLeadingZero}
 
 power_some : (n : ℕ) → 0 < 256 ^ n
 power_some zero = omega arith

@@ -11,9 +11,10 @@ use Rattle.dkv_key.specs.declared.codes.TheConstants.{ZERO, LONG_POSITIVE, LONG_
 use Rattle.dkv_key.specs.declared.part.Part.{Part}
 use Rattle.dkv_key.specs.declared.part.Part.TheVariants as part
 use Rattle.hex.specs.Hex.{IsBytes}
-use Rattle.dkv_key.specs.Parts.{IsInteger, IsWellFormed, IsPart, escaped, count_spelling, magnitude_spelling, double_bytes, spelling, number, integer, rank, part_cmp}
+use Rattle.dkv_base.specs.Stamps.{number}
+use Rattle.dkv_key.specs.Parts.{IsInteger, IsWellFormed, IsPart, escaped, count_spelling, magnitude_spelling, double_bytes, spelling, integer, rank, part_cmp}
 use Rattle.dkv_key.specs.Reading.{MayFollow, Begins}
-use Rattle.dkv_key.proofs.Orders.{then_first, then_second, nat_less, nat_equal, nat_greater, ranked, ranked_alike, apart_alone, same_keys, key_cmp-equal, first_less, first_greater, same_length}
+use Rattle.dkv_base.proofs.Orders.{then_first, then_second, nat_less, nat_equal, nat_greater, ranked, ranked_alike, apart_alone, same_keys, key_cmp-equal, first_less, first_greater, same_length}
 use Rattle.dkv_key.proofs.Escapes.{escaped_order}
 use Rattle.dkv_key.proofs.Numbers.{number_some, magnitude_order, positive_order, negative_order, negative_first, positive_last}
 use Rattle.dkv_key.proofs.Doubles.{same_double, length-double_bytes}

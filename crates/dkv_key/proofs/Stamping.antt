@@ -1,7 +1,7 @@
 -- Versionstamps compare as commit numbers, their digits are those of `hex`, and a suffix is a text.
 use Rattle.std.proofs.Common.{◌≡◌, ◌≢◌, ℕ, zero, suc, ◌+◌, ◌/◌, ◌%◌, ◌^◌, ◌<◌, ◌==◌, ◌&&◌, Bool, true, false, cond, inl, inr, List, [], ◌∷◌, ◌++◌, refl, sym, ap, ◌∙◌, arith}
 use Rattle.std.specs.Prelude.{nat_lt, slice_index}
-use Rattle.std.specs.Int.{w64, to_be_bytes, from_be_bytes}
+use Rattle.std.specs.Int.{w64, to_be_bytes}
 use Rattle.std.specs.Ordering.{nat_cmp, ordering_then}
 use Rattle.std.specs.declared.cmp.Ordering.{Ordering}
 use Rattle.std.specs.declared.cmp.Ordering.TheVariants.{Less, Equal, Greater}
@@ -9,23 +9,19 @@ use Rattle.std.proofs.lemmas.Nat.{from_be_bytes-to_be_bytes_8}
 use Rattle.std.proofs.lemmas.Bool.{and_parts, cases_lt, eqb-true}
 use Rattle.hex.specs.Hex.{IsBytes, encode_lower, encode_with, lower_digits}
 use Rattle.dkv_base.specs.State.{key_cmp}
-use Rattle.dkv_base.specs.Stamps.{stamp, hex_digit, hex_digits, suffix}
+use Rattle.dkv_base.specs.Stamps.{stamp, hex_digit, hex_digits, suffix, number}
 use Rattle.dkv_base.proofs.ByteLists.{below_tail, below_written}
+use Rattle.dkv_base.proofs.Orders.{same_length}
+use Rattle.dkv_base.proofs.Words.{number_of_8, number_order}
 use Rattle.dkv_key.specs.declared.part.Part.TheVariants as part
-use Rattle.dkv_key.specs.Parts.{escaped, spelling, number}
-use Rattle.dkv_key.proofs.Orders.{same_length}
+use Rattle.dkv_key.specs.Parts.{escaped, spelling}
 use Rattle.dkv_key.proofs.Escapes.{escaped_cons}
-use Rattle.dkv_key.proofs.Numbers.{number_order}
 
 -- nothing behind decides
 then_equal : (o : Ordering) → ordering_then o Equal ≡ o
 then_equal Less = refl
 then_equal Equal = refl
 then_equal Greater = refl
-
--- eight bytes write one number, whichever definition reads them
-pub number_of_8 : (a b c d e f g h : ℕ) → let bytes : List ℕ = a ∷ b ∷ c ∷ d ∷ e ∷ f ∷ g ∷ h ∷ [] in number bytes ≡ from_be_bytes w64 bytes
-number_of_8 a b c d e f g h = omega arith
 
 -- the bytes of a number write it
 number_is : (n : ℕ) → n < 2 ^ 64 → number (to_be_bytes w64 n) ≡ n

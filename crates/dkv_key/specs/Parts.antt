@@ -4,7 +4,7 @@
 --     spelling p, key ps      the bytes of a part, and of parts one after the other
 --     part_cmp p q, parts_cmp ps qs      the order by value
 --     range_start key, range_end key      the range of the keys that begin with this one and have more parts
-use Rattle.std.specs.Prelude.{◌≡◌, ◌≢◌, ℕ, zero, suc, ◌+◌, ◌-◌, ◌*◌, ◌^◌, ◌<◌, ◌≤◌, ⊤, Bool, true, false, nat_lt, nat_le, if◌then◌else◌, List, [], ◌∷◌, ◌++◌, length, map, ℤ, pos, neg_ℤ}
+use Rattle.std.specs.Prelude.{◌≡◌, ◌≢◌, ℕ, zero, suc, ◌+◌, ◌-◌, ◌^◌, ◌<◌, ◌≤◌, ⊤, Bool, true, false, nat_lt, nat_le, if◌then◌else◌, List, [], ◌∷◌, ◌++◌, length, map, ℤ, pos, neg_ℤ}
 use Rattle.std.specs.List.{flat_map, All}
 use Rattle.std.specs.Str.{IsUtf8}
 use Rattle.std.specs.Int.{w64, to_be_bytes}
@@ -13,6 +13,7 @@ use Rattle.std.specs.declared.cmp.Ordering.{Ordering}
 use Rattle.std.specs.Cmp.Lexicographic.{slice_cmp}
 use Rattle.hex.specs.Hex.{IsBytes}
 use Rattle.dkv_base.specs.State.{key_cmp}
+use Rattle.dkv_base.specs.Stamps.{number}
 use Rattle.dkv_key.specs.declared.codes.TheConstants.{BYTES, TEXT, END, ESCAPE, LONG_NEGATIVE, ZERO, LONG_POSITIVE, DOUBLE, FALSE, TRUE, MAX_SHORT_BYTES, MAX_INTEGER_BYTES, RANGE_START, RANGE_END}
 use Rattle.dkv_key.specs.declared.part.Part.{Part}
 use Rattle.dkv_key.specs.declared.part.Part.TheVariants as part
@@ -93,11 +94,6 @@ spelling (part.Bool true) = TRUE ∷ []
 -- the spellings of the parts, one after the other
 abbrev pub key : List Part → List ℕ
 key ps = flat_map spelling ps
-
--- the number that bytes write, greatest byte first (tuple layer, "Integer": big-endian)
-abbrev pub number : List ℕ → ℕ
-number [] = 0
-number (b ∷ bytes) = b * 256 ^ length bytes + number bytes
 
 -- the integer of a sign and a magnitude
 abbrev pub integer : Bool → List ℕ → ℤ

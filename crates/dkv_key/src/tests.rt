@@ -1,7 +1,6 @@
 //! Keys and their parts, in bytes that FoundationDB's tuple layer spells.
-use crate::{KeyError, Part, compare, decode, encode, prefix_range, stamp_hex, stamp_of, suffix};
+use crate::{KeyError, Part, decode, encode, prefix_range, stamp_hex, stamp_of, suffix};
 use std::alloc::Global;
-use std::cmp::Ordering;
 use std::process::Abort;
 use std::test::Fail;
 
@@ -238,24 +237,5 @@ fn ranges_and_versionstamps_are_spelled(rt: HostRuntime) -> Result<(), Fail> {
     assert_eq!(rt; &stamp_of(n), b"\x01\x23\x45\x67\x89\xab\xcd\xef\0\0");
     assert_eq!(rt; &stamp_hex(n), b"0123456789abcdef0000");
     assert_eq!(rt; &suffix(n), b"\x020123456789abcdef0000\0");
-    Ok(())
-}
-
-#[test]
-fn keys_compare_by_their_bytes(rt: HostRuntime) -> Result<(), Fail> {
-    for (key, other, order) in [
-        (&b""[..], &b"a"[..], Ordering::Less),
-        (b"abcdefgh", b"abcdefghi", Ordering::Less),
-        (b"abcdefgi", b"abcdefhh", Ordering::Less),
-        (b"zbcdefgh", b"abcdefghi", Ordering::Greater),
-        (
-            b"abcdefghabcdefgh\x80",
-            b"abcdefghabcdefgh\x7f",
-            Ordering::Greater,
-        ),
-        (b"abcdefghi", b"abcdefghi", Ordering::Equal),
-    ] {
-        assert_eq!(&rt; compare(key, other), order);
-    }
     Ok(())
 }

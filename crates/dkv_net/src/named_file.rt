@@ -134,7 +134,7 @@ impl NamedFile {
         let Some(file) = self.open()? else {
             return Ok(());
         };
-        let synced = file.sync_all();
+        let synced = file.sync_data();
         if self.is_lost || synced.is_err() {
             self.is_lost = true;
             return Err(ErrorKind::Other.into());

@@ -9,8 +9,7 @@ ghost use Rattle.dkv_table.specs.Blocks.{begins_upto, is_filled};
 
 use crate::place::first_from;
 use crate::sorted::{look_up, range, store, take_out};
-use dkv_base::{Entry, NoMemory};
-use dkv_key::compare;
+use dkv_base::{Entry, NoMemory, compare};
 use std::alloc::Global;
 use std::marker::Model;
 

@@ -3,8 +3,7 @@ ghost use Rattle.std.specs.Prelude.{◌≡◌, IsTrue, IfOk, IfErr};
 ghost use Rattle.dkv_base.specs.State.{key_cmp, is_in_key_order};
 ghost use Rattle.dkv_table.specs.Places.{IsAt, IsGap, IsStart};
 
-use dkv_base::Entry;
-use dkv_key::compare;
+use dkv_base::{Entry, compare};
 use std::cmp::Ordering;
 
 // Where the key's entry is, or where it would go.

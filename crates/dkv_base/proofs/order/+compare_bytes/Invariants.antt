@@ -1,5 +1,5 @@
 use Rattle.std.proofs.Common.{length}
-use Rattle.dkv_key.proofs.order.+compare_bytes.Given as goal
+use Rattle.dkv_base.proofs.order.+compare_bytes.Given as goal
 
 abbrev pub decreases-compare_bytes : goal.decreases-compare_bytes
 decreases-compare_bytes l = length l.key.now
