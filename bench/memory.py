@@ -26,6 +26,7 @@ BODIES = (
     ("checks past their count", WRITE, b"\x0a\x00" * (LENGTH // 2)),
     ("ranges past their count", 1, b"\x0a\x00" * (LENGTH // 2)),
     ("keys if undelivered past their count", WRITE, part(3, b"\x1a\x00" * (LENGTH // 2))),
+    ("keys of one byte if undelivered", WRITE, part(3, b"\x1a\x01k" * (LENGTH // 3))),
     ("packed intervals past their count", WRITE, part(3, part(4, b"\x00" * LENGTH))),
     ("single intervals past their count", WRITE, part(3, b"\x20\x00" * (LENGTH // 2))),
 )
