@@ -1,0 +1,3 @@
+pub mod KeyFrames
+pub mod HubRows
+pub mod Notes
