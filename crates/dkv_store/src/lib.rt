@@ -26,8 +26,3 @@ pub use opening::open_store;
 pub use store::Store;
 pub use tells::{Counts, Identity};
 pub use trail::MAX_TRAIL_BYTES;
-
-#[cfg(test)]
-mod opening_tests;
-#[cfg(test)]
-mod tests;

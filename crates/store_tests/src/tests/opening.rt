@@ -1,9 +1,9 @@
 // Two files as they are opened: cut, spoilt, closed, and with records.
 ghost use Rattle.std.specs.Prelude.{◌<◌, ◌^◌, length};
 
-use crate::{OpenRefusal, open_store};
 use dkv_files::{Pair, create};
 use dkv_io::MemoryDisk;
+use dkv_store::{OpenRefusal, open_store};
 use std::alloc::{AllocError, Global};
 use std::test::Fail;
 
@@ -110,5 +110,20 @@ fn what_is_not_built_yet_is_refused_at_its_place(rt: HostRuntime) -> Result<(), 
     let open = file(rt.alloc(), 113, b"")?;
     let other = file(rt.alloc(), 113, b"")?;
     assert_eq!(rt; opened(rt.alloc(), open, other), (3, 0, 0));
+    Ok(())
+}
+
+// Until its gate is written, whatever stands behind it: what was written so far, or a byte that is another.
+#[test]
+fn a_record_behind_a_closed_gate_is_none(rt: HostRuntime) -> Result<(), Fail> {
+    for place in 113..147 {
+        let mut cut = file(rt.alloc(), 112, RECORD)?;
+        cut[112] = 0;
+        let mut torn = cut.to_vec(rt.alloc())?;
+        torn[place] = 0xa5;
+        cut.truncate(place);
+        assert_eq!(rt; opened(rt.alloc(), cut, Vec::new(rt.alloc())), (0, 0, 0));
+        assert_eq!(rt; opened(rt.alloc(), torn, Vec::new(rt.alloc())), (0, 0, 0));
+    }
     Ok(())
 }

@@ -5,18 +5,16 @@ ghost use Rattle.dkv_base.specs.Profiles.{body_most};
 ghost use Rattle.dkv_base.specs.Spelling.{record_length};
 ghost use Rattle.dkv_core.specs.Decisions.{commit_of};
 
-use crate::commits::commit_for;
-use crate::{Done, Refusal, Store};
 use dkv_atomic::read_limits;
 use dkv_base::limits::MAX_RECORD_BYTES;
-use dkv_base::{
-    AtomicWrite, Bytes, Call, Enqueue, MsgId, Mutation, NoMemory, ReadRange, Run, TryCopy, Value,
-};
+use dkv_base::{Bytes, Call, Commit, MsgId, NoMemory, ReadRange, TryCopy};
 use dkv_core::Taken;
 use dkv_files::Pair;
 use dkv_io::{Disk, Failed, MemoryDisk};
 use dkv_journal::Journal;
+use dkv_msgs::read_atomic_write;
 use dkv_record::write_commit;
+use dkv_store::{Done, Refusal, Store};
 use std::alloc::Global;
 use std::test::Fail;
 
@@ -105,6 +103,16 @@ fn is_short(alloc: Global, who: u32, at: u64, call: &Call) -> bool
     }
 }
 
+fn commit_for(who: u32, at: u64, call: Call) -> Commit
+    ensures { result ≡ commit_of who at call }
+{
+    match call {
+        Call::Write(write) => Commit::Wrote { who, at, write },
+        Call::Ack(id) => Commit::Acked { who, at, id },
+        Call::Fail(id) => Commit::Failed { who, at, id },
+    }
+}
+
 fn copy_of(alloc: Global, call: &Call) -> Result<Call, NoMemory>
     ensures { IfOk result (λ c. c ≡ call.now) }
 {
@@ -127,36 +135,15 @@ fn commit(store: &mut Store<Quiet>, alloc: Global, at: u64, call: Call) -> Resul
     }
 }
 
-// A write that sets a key, and adds a message that is due at moment 5 and may fail once.
-fn write(alloc: Global, key: &[u8]) -> Result<Call, NoMemory> {
-    let mut mutations = Run::new(alloc);
-    mutations.add(Mutation {
-        key: Bytes::copy_of(alloc, key)?,
-        value: Some(Value {
-            bytes: Bytes::copy_of(alloc, b"x")?,
-            encoding: 3,
-        }),
-        kind: 1,
-        expire_at_ms: 0,
-    })?;
-    let mut enqueues = Run::new(alloc);
-    enqueues.add(message(alloc)?)?;
-    Ok(Call::Write(AtomicWrite {
-        checks: Run::new(alloc),
-        mutations,
-        enqueues,
-    }))
-}
+// A write that sets the key of the text `a`, and adds a message that is due at moment 5 and may fail once.
+const WRITE: &[u8] = b"\x12\x0e\x0a\x03\x02a\x00\x12\x05\x0a\x01x\x10\x03\x18\x01\
+    \x1a\x08\x0a\x01m\x10\x05\x22\x01\x01";
 
-fn message(alloc: Global) -> Result<Enqueue, NoMemory> {
-    let mut backoff = Run::new(alloc);
-    backoff.add(1)?;
-    Ok(Enqueue {
-        payload: Bytes::copy_of(alloc, b"m")?,
-        deadline_ms: 5,
-        undelivered: Run::new(alloc),
-        backoff,
-    })
+fn write(alloc: Global) -> Result<Call, NoMemory> {
+    match read_atomic_write(alloc, WRITE) {
+        Ok(write) => Ok(Call::Write(write)),
+        Err(_) => Err(NoMemory),
+    }
 }
 
 // How many records the file has.
@@ -173,7 +160,7 @@ fn records(alloc: Global, store: Store<Quiet>) -> usize {
 // Writes at so many moments, each in turn; those that fail are let be.
 fn write_often(store: &mut Store<Quiet>, alloc: Global, times: u64) -> Result<(), NoMemory> {
     for at in 0..times {
-        let call = write(alloc, b"\x02a\x00")?;
+        let call = write(alloc)?;
         let _answer = commit(store, alloc, at, call);
     }
     Ok(())
