@@ -1,21 +1,24 @@
 -- An input of whole frames that are built is answered to its end.
-use Rattle.std.proofs.Common.{◌≡◌, ℕ, ◌<◌, ◌≤◌, false, List, [], ◌∷◌, ◌++◌, length, Option, Some, None, inl, inr, refl, sym, ap, subst, ◌∙◌, arith, length-append}
-use Rattle.std.specs.Prelude.{IsTrue}
+use Rattle.std.proofs.Common.{◌≡◌, ◌⊎◌, ℕ, ◌+◌, ◌-◌, ◌^◌, ◌<◌, ◌≤◌, Bool, true, false, cond, List, [], ◌∷◌, ◌++◌, length, Option, Some, None, inl, inr, refl, sym, ap, subst, ◌∙◌, arith, length-append}
+use Rattle.std.specs.Prelude.{IsTrue, count_by, min, nat_le}
 use Rattle.std.specs.List.{AllByRecursion}
 use Rattle.std.specs.Io.KnownBytes.{Appends, Consumes, IsAtEnd}
+use Rattle.std.proofs.lemmas.Bool.{leb-true, leb-false}
 use Rattle.std.proofs.lemmas.List.{append-nil}
+use Rattle.std.proofs.lemmas.List.Sums.{sum_by-cons}
 use Rattle.std.proofs.lemmas.List.Elements.{recursion_from_All}
 use Rattle.dkv_base.specs.Steps.{Situation}
 use Rattle.dkv_io.specs.Causes.{Rose}
-use Rattle.dkv_core.specs.Cores as cores
+use Rattle.dkv_store.specs.Stores.{IsWithinRise}
 use Rattle.dkv_pipe.specs.declared.pipe.PipeEnd.{PipeEnd}
 use Rattle.dkv_pipe.specs.declared.pipe.PipeEnd.TheVariants as end
 use Rattle.dkv_pipe.specs.declared.sizes.TheConstants.{MAX_PLACE}
 use Rattle.dkv_pipe.specs.Frames.{PipeFrame, Whole, Partial, Refused, front, Begins}
 use Rattle.dkv_pipe.specs.Built.{is_built}
 use Rattle.dkv_pipe.specs.Wishes.{readings}
-use Rattle.dkv_pipe.specs.Pipe.{replies_from}
-use Rattle.dkv_pipe.specs.Ends.{Streams, Course, NoFrame, HasEndCause, Ran}
+use Rattle.dkv_pipe.specs.Pipe.{frame_step, replies_from}
+use Rattle.dkv_pipe.specs.Courses.{Course}
+use Rattle.dkv_pipe.specs.Ends.{Streams, NoFrame, HasEndCause, Ran}
 use Rattle.dkv_pipe.specs.Whole.{IsWholeInput, Completes}
 use Rattle.dkv_pipe.specs.Laws.{Complete}
 use Rattle.dkv_pipe.proofs.Fronts.{front_more, not_partial, not_refused}
@@ -87,27 +90,49 @@ nothing_more : (more : List PipeFrame) → Begins [] more [] → more ≡ []
 nothing_more [] b = refl
 nothing_more (g ∷ gs) b = absurd (not_whole g b.0 b.1)
 
+-- ---- marks
+
+-- where no disk's count rose there are no marks
+pub no_marks : (n a b c d : ℕ) → IsWithinRise n a b c d → ¬ (Rose a b ⊎ Rose c d) → n ≡ 0
+no_marks n a b c d within none =
+    elim (nat_le (min (a + 1) (2 ^ 64 - 1)) b) as (λ x. nat_le (min (a + 1) (2 ^ 64 - 1)) b ≡ x → n ≡ 0) [
+      | true ↦ λ is. absurd (none (inl (leb-true _ _ is)))
+      | false ↦ λ low. elim (nat_le (min (c + 1) (2 ^ 64 - 1)) d) as (λ y. nat_le (min (c + 1) (2 ^ 64 - 1)) d ≡ y → n ≡ 0) [
+        | true ↦ λ is. absurd (none (inr (leb-true _ _ is)))
+        | false ↦ λ lower.
+            let first : b < min (a + 1) (2 ^ 64 - 1) = leb-false _ _ low in
+            let second : d < min (c + 1) (2 ^ 64 - 1) = leb-false _ _ lower in
+            omega (arith, first, second, within (omega (arith, first)) (omega (arith, second)))
+      ] refl
+    ] refl
+
+-- without true marks the replies are those without marks
+unmarked_replies : (from : Situation) (fs : List PipeFrame) (ms : List Bool) → count_by (λ mark. mark) ms ≡ 0 → replies_from readings from fs ms ≡ replies_from readings from fs []
+unmarked_replies from [] ms none = refl
+unmarked_replies from (f ∷ fs) [] none = refl
+unmarked_replies from (f ∷ fs) (true ∷ ms) none = absurd (omega (arith, none, sum_by-cons (λ mark. cond mark 1 0) true ms))
+unmarked_replies from (f ∷ fs) (false ∷ ms) none =
+    let first = frame_step readings from f false in
+    ap (λ (l : List ℕ). first.0 ++ l) (unmarked_replies first.1 fs ms (omega (arith, none, sum_by-cons (λ mark. cond mark 1 0) false ms)))
+
 -- ---- a run over whole frames
 
-module _ (e : PipeEnd) (from : Situation) (before after : Streams) (to : cores.Database) (ran : Ran e from before after to)
+module _ (e : PipeEnd) (from : Situation) (before after : Streams) (c : Course) (ran : Ran e from before after c)
     (frames : List PipeFrame) (is : IsWholeInput before.left frames) where
-  abbrev c : Course
-  c = ran.course
+  l : Left is.input ran.read after.left
+  l = left_of before.left after.left is.input ran.read is.told ran.taken
 
-  l : Left is.input c.read after.left
-  l = left_of before.left after.left is.input c.read is.told ran.read
-
-  b : Behind (c.rest ++ l.left) ran.answered.replied.frames frames
-  b = behind is.input ran.answered.replied.frames frames (c.rest ++ l.left)
-      (subst (λ (bytes : List ℕ). Begins bytes ran.answered.replied.frames (c.rest ++ l.left)) (sym l.is) (begins_more c.read l.left ran.answered.replied.frames c.rest ran.answered.replied.whole))
+  b : Behind (c.rest ++ l.left) c.frames frames
+  b = behind is.input c.frames frames (c.rest ++ l.left)
+      (subst (λ (bytes : List ℕ). Begins bytes c.frames (c.rest ++ l.left)) (sym l.is) (begins_more ran.read l.left c.frames c.rest ran.answered.whole))
       (frames_begin is.input frames is.whole)
 
   built : AllByRecursion (λ f. IsTrue (is_built f.kind)) b.more
-  built = built_behind ran.answered.replied.frames b.more
+  built = built_behind c.frames b.more
       (subst (λ (fs : List PipeFrame). AllByRecursion (λ f. IsTrue (is_built f.kind)) fs) b.is (recursion_from_All (λ f. IsTrue (is_built f.kind)) frames is.built))
 
   early : c.at < MAX_PLACE
-  early = omega (arith, ran.answered.place, is.early, ap length l.is, length-append c.read l.left)
+  early = omega (arith, ran.answered.place, is.early, ap length l.is, length-append ran.read l.left)
 
   -- where nothing is left
   at_end : IsAtEnd after.left → Begins c.rest b.more []
@@ -118,27 +143,29 @@ module _ (e : PipeEnd) (from : Situation) (before after : Streams) (to : cores.D
   no_frame_never (inr (inl cut)) = cut_never c.rest b.more cut.part cut.some (at_end cut.last)
   no_frame_never (inr (inr late)) = omega (arith, early, late)
 
-  all_answered : c.rest ≡ [] → IsAtEnd after.left → c.out ≡ replies_from readings from frames []
-  all_answered none last =
+  all_answered : c.rest ≡ [] → IsAtEnd after.left → count_by (λ mark. mark) c.marks ≡ 0 → c.out ≡ replies_from readings from frames []
+  all_answered none last unmarked =
       let more = nothing_more b.more (subst (λ (bytes : List ℕ). Begins bytes b.more []) none (at_end last)) in
-      let all : frames ≡ ran.answered.replied.frames = b.is ∙ ap (λ (fs : List PipeFrame). ran.answered.replied.frames ++ fs) more ∙ append-nil ran.answered.replied.frames in
-      ran.answered.replied.replied ∙ ap (λ (fs : List PipeFrame). replies_from readings from fs []) (sym all)
+      let all : frames ≡ c.frames = b.is ∙ ap (λ (fs : List PipeFrame). c.frames ++ fs) more ∙ append-nil c.frames in
+      ran.answered.replied ∙ unmarked_replies from c.frames c.marks unmarked ∙ ap (λ (fs : List PipeFrame). replies_from readings from fs []) (sym all)
 
-pub completes : (e : PipeEnd) (from : Situation) (before after : Streams) (to : cores.Database) (R W : Type 0) → Ran e from before after to → HasEndCause e after.ended R W → Completes e from before after R W
-completes end.Ok from before after to R W ran cause frames is no_read no_write =
-    subst (λ (out : List ℕ). Appends before.held after.held out) (all_answered end.Ok from before after to ran frames is ran.ends.none ran.ends.last) ran.written
-completes end.NoMemory from before after to R W ran cause frames is no_read no_write = tt
-completes end.ReadFault from before after to R W ran cause frames is no_read no_write = no_read cause
-completes end.WriteFault from before after to R W ran cause frames is no_read no_write = no_write cause
-completes (end.BadFrame place) from before after to R W ran cause frames is no_read no_write = no_frame_never (end.BadFrame place) from before after to ran frames is ran.ends.1
-completes (end.NotBuilt place) from before after to R W ran cause frames is no_read no_write =
+pub completes : (e : PipeEnd) (from : Situation) (before after : Streams) (c : Course) (R W D : Type 0) → Ran e from before after c → HasEndCause e after.ended R W
+    → (¬ D → count_by (λ mark. mark) c.marks ≡ 0) → Completes e from before after R W D
+completes end.Ok from before after c R W D ran cause unmarked frames is no_read no_write no_disk =
+    subst (λ (out : List ℕ). Appends before.held after.held out) (all_answered end.Ok from before after c ran frames is ran.ends.none ran.ends.last (unmarked no_disk)) ran.written
+completes end.NoMemory from before after c R W D ran cause unmarked frames is no_read no_write no_disk = tt
+completes end.ReadFault from before after c R W D ran cause unmarked frames is no_read no_write no_disk = no_read cause
+completes end.WriteFault from before after c R W D ran cause unmarked frames is no_read no_write no_disk = no_write cause
+completes (end.BadFrame place) from before after c R W D ran cause unmarked frames is no_read no_write no_disk = no_frame_never (end.BadFrame place) from before after c ran frames is ran.ends.1
+completes (end.NotBuilt place) from before after c R W D ran cause unmarked frames is no_read no_write no_disk =
     let u = ran.ends.1 in
     let e = end.NotBuilt place in
-    unbuilt_never ran.course.rest (l e from before after to ran frames is).left (b e from before after to ran frames is).more u.frame u.more u.whole u.unbuilt
-    (b e from before after to ran frames is).begins (built e from before after to ran frames is)
+    unbuilt_never c.rest (l e from before after c ran frames is).left (b e from before after c ran frames is).more u.frame u.more u.whole u.unbuilt
+    (b e from before after c ran frames is).begins (built e from before after c ran frames is)
 
 pub complete : Complete
-complete e from before after to read_old read_new write_old write_new ran cause = completes e from before after to _ _ ran cause
+complete e from before after c read_old read_new write_old write_new a_old a_new b_old b_new ran cause within =
+    completes e from before after c _ _ _ ran cause (no_marks (count_by (λ mark. mark) c.marks) a_old a_new b_old b_new within)
 
 -- a count that rose since later rose since earlier
 pub rose_from : (a b n : ℕ) → a ≤ b → Rose b n → Rose a n

@@ -1,9 +1,14 @@
 mod Codes
 mod Fronts
 mod RepliedFrames
+mod Halves
+mod Reaching
 mod Runs
 mod Spelled
 mod Refused
 mod One
 pub mod Complete
 mod Grants
+mod Calls
+pub mod Begun
+mod Asked

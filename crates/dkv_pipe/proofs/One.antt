@@ -3,15 +3,15 @@ use Rattle.std.proofs.Common.{◌≡◌, ℕ, ◌+◌, ◌<◌, ◌≤◌, ◌�
 use Rattle.std.specs.Prelude.{IsTrue}
 use Rattle.std.specs.List.{AllByRecursion}
 use Rattle.dkv_base.specs.Steps.{Situation}
-use Rattle.dkv_core.specs.Cores as cores
 use Rattle.dkv_pipe.specs.declared.pipe.PipeEnd.{PipeEnd}
 use Rattle.dkv_pipe.specs.declared.pipe.PipeEnd.TheVariants as end
 use Rattle.dkv_pipe.specs.declared.sizes.TheConstants.{BODY_PLACE, MAX_PLACE}
 use Rattle.dkv_pipe.specs.Frames.{PipeFrame, Whole, Partial, Refused, front, Begins, BeginEarly}
 use Rattle.dkv_pipe.specs.Built.{is_built}
 use Rattle.dkv_pipe.specs.Wishes.{readings}
-use Rattle.dkv_pipe.specs.Pipe.{replies_from, after_frames}
-use Rattle.dkv_pipe.specs.Ends.{Streams, Course, CourseTo, NoFrame, Unbuilt, EndsAt, Ran}
+use Rattle.dkv_pipe.specs.Pipe.{replies_from}
+use Rattle.dkv_pipe.specs.Courses.{Course, IsCourse}
+use Rattle.dkv_pipe.specs.Ends.{Streams, NoFrame, Unbuilt, EndsAt, Ran}
 use Rattle.dkv_pipe.specs.Laws.{NoBuilt, OneRun, IsTold, OneCourse}
 use Rattle.dkv_pipe.proofs.Fronts.{not_partial, not_refused}
 use Rattle.dkv_pipe.proofs.RepliedFrames.{span, begins_length}
@@ -40,13 +40,17 @@ one_list bytes (f ∷ fs) (g ∷ gs) rest last x xs none y ys never =
     let more = one_list x.0 fs gs rest last x.2 xs.1 none (subst (λ (l : List ℕ). Begins l gs last) (sym same.1) y.2) ys.1 never in
     (ap (λ (h : PipeFrame). h ∷ fs) same.0 ∙ ap (λ (hs : List PipeFrame). g ∷ hs) more.0, more.1)
 
+-- courses of one input with the same frames, marks and rest
+courses_are : (from : Situation) (input other : List ℕ) (c d : Course) → IsCourse from input c → IsCourse from other d → input ≡ other → c.frames ≡ d.frames → c.marks ≡ d.marks → c.rest ≡ d.rest → c ≡ d
+courses_are from input other c d x y same frames marks rest =
+    let out : c.out ≡ d.out = x.replied ∙ (λ i. replies_from readings from (frames i) (marks i)) ∙ sym y.replied in
+    let place : c.at ≡ d.at = omega (arith, x.place, y.place, ap length same, ap length rest) in
+    λ i. record { frames = frames i; marks = marks i; at = place i; out = out i; rest = rest i }
+
 pub one_run : OneRun
-one_run from input s t a b rest last x none y never =
-    let same = one_list input x.frames y.frames rest last x.whole x.built none y.whole y.built never in (
-      x.leads ∙ ap (λ (fs : List PipeFrame). after_frames readings from fs []) same.0 ∙ sym y.leads,
-      x.replied ∙ ap (λ (fs : List PipeFrame). replies_from readings from fs []) same.0 ∙ sym y.replied,
-      same.1,
-    )
+one_run from input c d x none y never marks =
+    let same = one_list input c.frames d.frames c.rest d.rest x.whole x.built none y.whole y.built never in
+    courses_are from input input c d x y refl same.0 marks same.1
 
 -- ---- where a run ends
 
@@ -102,24 +106,18 @@ told_over (end.NotBuilt place) after at rest told ends = inl (frame_unbuilt at r
 told_over end.NoMemory after at rest told ends = absurd told
 
 -- the place is where the frames end
-place_is : (from : Situation) (to : cores.Database) (k : Course) (r : CourseTo from to k) → k.at ≡ 0 + span r.replied.frames
-place_is from to k r = omega (arith, r.place, begins_length k.read r.replied.frames k.rest r.replied.whole)
+place_is : (from : Situation) (read : List ℕ) (c : Course) (r : IsCourse from read c) → c.at ≡ 0 + span c.frames
+place_is from read c r = omega (arith, r.place, begins_length read c.frames c.rest r.whole)
 
-run_over : (e : PipeEnd) (from : Situation) (before after : Streams) (to : cores.Database) (r : Ran e from before after to) → IsTold e → IsOver (0 + span r.answered.replied.frames) r.course.rest
-run_over e from before after to r told =
-    subst (λ (n : ℕ). IsOver n r.course.rest) (place_is from to r.course r.answered) (told_over e after r.course.at r.course.rest told r.ends)
+run_over : (e : PipeEnd) (from : Situation) (before after : Streams) (c : Course) (r : Ran e from before after c) → IsTold e → IsOver (0 + span c.frames) c.rest
+run_over e from before after c r told =
+    subst (λ (n : ℕ). IsOver n c.rest) (place_is from r.read c r.answered) (told_over e after c.at c.rest told r.ends)
 
 pub one_course : OneCourse
-one_course d e from b c u v x y r s first last same =
-    let k = r.course in
-    let l = s.course in
-    let p = r.answered.replied in
-    let q = s.answered.replied in
-    let one = one_way 0 l.read p.frames q.frames k.rest l.rest
-    (subst (λ (bytes : List ℕ). Begins bytes p.frames k.rest) same p.whole) p.built r.answered.early (run_over d from b c x r first)
-    q.whole q.built s.answered.early (run_over e from u v y s last) in
-    let out : k.out ≡ l.out = p.replied ∙ ap (λ (fs : List PipeFrame). replies_from readings from fs []) one.0 ∙ sym q.replied in
-    let place : k.at ≡ l.at = omega (arith, r.answered.place, s.answered.place, ap length same, ap length one.1) in (
-      λ i. record { read = same i; at = place i; out = out i; rest = one.1 i },
-      p.leads ∙ ap (λ (fs : List PipeFrame). after_frames readings from fs []) one.0 ∙ sym q.leads,
-    )
+one_course d e from b c u v x y r s first last same marks =
+    let p = r.answered in
+    let q = s.answered in
+    let one = one_way 0 s.read x.frames y.frames x.rest y.rest
+    (subst (λ (bytes : List ℕ). Begins bytes x.frames x.rest) same p.whole) p.built p.early (run_over d from b c x r first)
+    q.whole q.built q.early (run_over e from u v y s last) in
+    courses_are from r.read s.read x y p q same one.0 marks one.1

@@ -1,26 +1,35 @@
 -- A run goes on, or ends.
-use Rattle.std.proofs.Common.{◌≡◌, ℕ, ◌+◌, ◌<◌, List, [], ◌++◌, length, drop, Option, Some, None, refl, sym, ap, subst, ◌∙◌, arith, append_assoc, length-append, inl, inr}
-use Rattle.std.specs.Prelude.{IsTrue, false}
+use Rattle.std.proofs.Common.{◌≡◌, ℕ, ◌+◌, ◌<◌, Bool, List, [], ◌∷◌, ◌++◌, length, drop, Option, Some, None, refl, sym, ap, subst, ◌∙◌, arith, append_assoc, length-append, inl, inr}
+use Rattle.std.specs.Prelude.{IsTrue, false, max}
 use Rattle.std.specs.Io.KnownBytes.{Appends, Consumes, IsAtEnd}
-use Rattle.std.proofs.lemmas.List.{length-drop}
+use Rattle.std.proofs.lemmas.List.{length-drop, append-nil}
 use Rattle.dkv_io.specs.Streams.{AppendsFront}
+use Rattle.dkv_base.specs.declared.types.Commit.{Commit}
 use Rattle.dkv_base.specs.declared.types.MsgId.{MsgId}
 use Rattle.dkv_base.specs.Messages.{is_out}
-use Rattle.dkv_base.specs.Steps.{Situation}
-use Rattle.dkv_core.specs.Cores as cores
-use Rattle.dkv_core.specs.Cores.{SameContent}
-use Rattle.dkv_core.specs.Runs.{situation_of}
+use Rattle.dkv_base.specs.Moments.{capped_moment}
+use Rattle.dkv_base.specs.State.{State}
+use Rattle.dkv_base.specs.Steps.{Situation, raised}
+use Rattle.dkv_base.specs.Trails.{commits}
+use Rattle.dkv_store.specs.Stores.{Contents, IsRaised, IsRaisedTo, effective_at}
+use Rattle.dkv_store.specs.Situations.{StandsFor}
+use Rattle.dkv_store.specs.Terms.{Leads}
 use Rattle.dkv_pipe.specs.declared.frames.Head.{Head}
+use Rattle.dkv_pipe.specs.declared.pipe.PipeEnd.{PipeEnd}
 use Rattle.dkv_pipe.specs.declared.pipe.PipeEnd.TheVariants as end
 use Rattle.dkv_pipe.specs.declared.sizes.TheConstants.{MAX_PLACE}
-use Rattle.dkv_pipe.specs.Frames.{PipeFrame, Partial, Refused, front, BeginEarly}
-use Rattle.dkv_pipe.specs.Wishes.{readings}
-use Rattle.dkv_pipe.specs.Pipe.{frame_step}
+use Rattle.dkv_pipe.specs.Frames.{PipeFrame, Partial, Refused, Whole, front}
+use Rattle.dkv_pipe.specs.Wishes.{readings, wish}
+use Rattle.dkv_pipe.specs.Pipe.{frame_step, after_frames}
 use Rattle.dkv_pipe.specs.Built.{is_built}
-use Rattle.dkv_pipe.specs.Grants.{Answers}
-use Rattle.dkv_pipe.specs.Ends.{Streams, Course, CourseTo, NoFrame, Ran}
+use Rattle.dkv_pipe.specs.Courses.{Course, IsCourse, situation_of}
+use Rattle.dkv_pipe.specs.Doubts.{doubts_of, frame_doubt, wish_doubt}
+use Rattle.dkv_pipe.specs.Grants.{Answers, IsRefusedFor}
+use Rattle.dkv_pipe.specs.Stores.{Reaches, EndsIn, RunsTo}
+use Rattle.dkv_pipe.specs.Ends.{Streams, NoFrame, EndsAt, Writes}
 use Rattle.dkv_pipe.specs.Running.{Running, IsWholeOf, frame_with, body_at}
-use Rattle.dkv_pipe.proofs.RepliedFrames.{replied_more, replied_one, begin_early_one}
+use Rattle.dkv_pipe.proofs.RepliedFrames.{course_more, course_one, course_with, after_one, doubts_one}
+use Rattle.dkv_pipe.proofs.Reaching.{reaches_none, reaches_one, reaches_same, leads_none, leads_then}
 use Rattle.dkv_io.proofs.Written.{appends_nothing, appends_then}
 
 -- ---- what was read
@@ -35,170 +44,209 @@ consumes_then (Some all) None c xs ys first second = absurd first
 consumes_then (Some all) (Some bs) None xs ys first second = absurd second
 consumes_then (Some all) (Some bs) (Some cs) xs ys first second = first ∙ ap (λ (l : List ℕ). xs ++ l) second ∙ sym (append_assoc xs ys cs)
 
--- ---- steps
+-- ---- situations
 
--- at the start nothing is read, and the buffer is empty
-pub at_start : (c : cores.Database) (before : Streams) → Running (situation_of c) before before c [] 0
-at_start c before = record {
-  read = [];
-  out = [];
-  consumed = consumes_nothing before.left;
-  answered = record {
-    situation = situation_of c;
-    replied = record { frames = []; whole = refl; built = tt; replied = refl; leads = refl };
-    early = tt;
-    stands = record { state = refl; out = λ id. refl; greatest = refl; unstopped = refl; unlimited = refl };
-    place = refl;
-  };
-  written = appends_nothing before.held;
+-- a store at another moment stands for the situation at that moment
+raised_stands : {D : Type 0} (s : Situation) (old new : Contents D) (t : ℕ) → StandsFor s old → IsRaisedTo t old new → StandsFor (raised t s) new
+raised_stands s old new t stands is = record {
+  state = stands.state ∙ sym is.state;
+  out = λ id. stands.out id ∙ ap (λ (ids : List MsgId). is_out id ids) (sym is.out);
+  greatest = sym is.greatest;
+  trail = stands.trail ∙ sym is.trail;
+  unlimited = stands.unlimited;
 }
 
--- a piece is read
-pub more_on : (from : Situation) (before now next : Streams) (c : cores.Database) (buffer : List ℕ) (at : ℕ) (piece : List ℕ)
-    → Running from before now c buffer at → Consumes now.left next.left piece → now.held ≡ next.held → Running from before next c (buffer ++ piece) at
-more_on from before now next c buffer at piece is takes keeps =
-    let more = replied_more from is.read piece is.answered.situation is.out buffer is.answered.replied in record {
+same_stands : {D : Type 0} (s : Situation) (old new : Contents D) → StandsFor s old → IsRaisedTo old.core.greatest old new → StandsFor s new
+same_stands s old new stands is = record {
+  state = stands.state ∙ sym is.state;
+  out = λ id. stands.out id ∙ ap (λ (ids : List MsgId). is_out id ids) (sym is.out);
+  greatest = stands.greatest ∙ sym is.greatest;
+  trail = stands.trail ∙ sym is.trail;
+  unlimited = stands.unlimited;
+}
+
+-- the doubt of a frame in a situation is the one in its store
+doubt_is : {D : Type 0} (s : Situation) (c : Contents D) (f : PipeFrame) (mark : Bool) → StandsFor s c
+    → frame_doubt s f mark ≡ wish_doubt mark (wish readings f.kind f.body) f.caller (effective_at c f.moment) (length (commits c.trail))
+doubt_is s c f mark stands = λ i. wish_doubt mark (wish readings f.kind f.body) f.caller (max (capped_moment f.moment) (stands.greatest i)) (length (commits (stands.trail i)))
+
+module _ {D : Type 0} (seen : D → Option (List ℕ)) (images : D → List ℕ → Type 0) (faults moment : D → ℕ) (since : D → ℕ → List ℕ → Type 0) where
+  -- ---- steps
+
+  -- at the start nothing is read, and the buffer is empty
+  pub at_start : (s : Contents D) (before : Streams) → Running seen images faults moment since s before before s [] 0
+  at_start s before = record {
+    read = [];
+    frames = [];
+    marks = [];
+    out = [];
+    taken = consumes_nothing before.left;
+    answered = record { whole = refl; built = tt; early = tt; place = refl; replied = refl; many = refl; marked = tt };
+    written = appends_nothing before.held;
+    stands = record { state = refl; out = λ id. refl; greatest = refl; trail = refl; unlimited = refl };
+    reaches = reaches_none faults s;
+    leads = leads_none seen images moment since s;
+  }
+
+  module _ (old : Contents D) (before now : Streams) (s : Contents D) (buffer : List ℕ) (at : ℕ) (is : Running seen images faults moment since old before now s buffer at) where
+    abbrev from : Situation
+    from = situation_of old
+
+    abbrev here : Situation
+    here = after_frames readings from is.frames is.marks
+
+    abbrev c : Course
+    c = record { frames = is.frames; marks = is.marks; at = at; out = is.out; rest = buffer }
+
+    -- a piece is read
+    pub more_on : (next : Streams) (piece : List ℕ) → Consumes now.left next.left piece → now.held ≡ next.held → Running seen images faults moment since old before next s (buffer ++ piece) at
+    more_on next piece takes keeps = record {
       read = is.read ++ piece;
+      frames = is.frames;
+      marks = is.marks;
       out = is.out;
-      consumed = consumes_then before.left now.left next.left is.read piece is.consumed takes;
-      answered = record {
-        situation = is.answered.situation;
-        replied = more.replied;
-        early = subst (λ (fs : List PipeFrame). BeginEarly 0 fs) (sym more.same) is.answered.early;
-        stands = is.answered.stands;
-        place = omega (arith, is.answered.place, length-append is.read piece, length-append buffer piece);
-      };
+      taken = consumes_then before.left now.left next.left is.read piece is.taken takes;
+      answered = course_more from is.read piece c is.answered;
       written = subst (λ (held : Option (List ℕ)). Appends before.held held is.out) keeps is.written;
+      stands = is.stands;
+      reaches = is.reaches;
+      leads = is.leads;
     }
 
--- one more frame is answered
-answered_next : (from : Situation) (c d : cores.Database) (read out buffer : List ℕ) (at : ℕ) (h : Head) (reply : List ℕ)
-    → at < MAX_PLACE → CourseTo from c (record { read = read; at = at; out = out; rest = buffer }) → IsWholeOf h buffer → Answers c (frame_with h (body_at h.len buffer)) reply d
-    → CourseTo from d (record { read = read; at = at + h.len; out = out ++ reply; rest = drop h.len buffer })
-answered_next from c d read out buffer at h reply next upto w e =
-    let f = frame_with h (body_at h.len buffer) in
-    let said = e.1 upto.situation upto.stands in
-    let one = replied_one from read upto.situation out buffer f (drop h.len buffer) reply upto.replied w.whole e.0 said.0 in
-    record {
-      situation = (frame_step readings upto.situation f false).1;
-      replied = one.replied;
-      early = subst (λ (fs : List PipeFrame). BeginEarly 0 fs) (sym one.same) (begin_early_one read upto.replied.frames buffer at f upto.replied.whole upto.place next upto.early);
-      stands = said.1;
-      place = omega (arith, upto.place, w.most, length-drop h.len buffer);
+    -- ---- one more frame is answered
+
+    module _ (new : Contents D) (h : Head) (reply : List ℕ) (early : at < MAX_PLACE) (w : IsWholeOf h buffer)
+        (e : Answers seen images faults moment since s (frame_with h (body_at h.len buffer)) reply new) where
+      abbrev f : PipeFrame
+      f = frame_with h (body_at h.len buffer)
+
+      abbrev m : Bool
+      m = e.1.mark
+
+      step_is : ((frame_step readings here f m).0 ≡ reply) × StandsFor (frame_step readings here f m).1 new
+      step_is = e.1.steps here is.stands
+
+      abbrev longer : Course
+      longer = course_with c f m reply (at + h.len) (drop h.len buffer)
+
+      course_is : IsCourse from is.read longer
+      course_is = course_one from is.read c f m reply (at + h.len) (drop h.len buffer) is.answered early w.whole e.0 step_is.0 e.1.marked (omega (arith, w.most, length-drop h.len buffer))
+
+      stands_is : StandsFor (after_frames readings from longer.frames longer.marks) new
+      stands_is = subst (λ (u : Situation). StandsFor u new) (sym (after_one from is.frames is.marks f m is.answered.many)) step_is.1
+
+      reaches_is : Reaches faults (length longer.frames) longer.marks old new
+      reaches_is = subst (λ (n : ℕ). Reaches faults n longer.marks old new) (sym (length-append is.frames (f ∷ []))) (reaches_one faults (length is.frames) is.marks m old s new is.reaches e.1.reaches)
+
+      leads_is : Leads seen images moment since (doubts_of from longer.frames longer.marks) old new
+      leads_is =
+          subst (λ (l : List (ℕ × Commit)). Leads seen images moment since l old new) (sym (doubts_one from is.frames is.marks f m is.answered.many))
+          (leads_then seen images moment since old s new (doubts_of from is.frames is.marks) (frame_doubt here f m) is.leads
+          (subst (λ (l : List (ℕ × Commit)). Leads seen images moment since l s new) (sym (doubt_is here s f m is.stands)) e.1.leads))
+
+      pub frame_on : (next : Streams) → now.left ≡ next.left → Appends now.held next.held reply → Running seen images faults moment since old before next new (drop h.len buffer) (at + h.len)
+      frame_on next keeps grows = record {
+        read = is.read;
+        frames = longer.frames;
+        marks = longer.marks;
+        out = longer.out;
+        taken = subst (λ (left : Option (List ℕ)). Consumes before.left left is.read) keeps is.taken;
+        answered = course_is;
+        written = appends_then before.held now.held next.held is.out reply is.written grows;
+        stands = stands_is;
+        reaches = reaches_is;
+        leads = leads_is;
+      }
+
+      -- and the write of its reply fails
+      pub fault_ends : (next : Streams) → now.left ≡ next.left → AppendsFront now.held next.held reply → RunsTo seen images faults moment since end.WriteFault before next old new
+      fault_ends next keeps grows = record {
+        course = longer;
+        ran = record {
+          read = is.read;
+          taken = subst (λ (left : Option (List ℕ)). Consumes before.left left is.read) keeps is.taken;
+          answered = course_is;
+          written = record {
+            earlier = c;
+            frame = f;
+            mark = m;
+            last = reply;
+            held = now.held;
+            answered = is.answered;
+            next = w.whole;
+            frames = refl;
+            marks = refl;
+            reply = sym step_is.0;
+            out = refl;
+            written = is.written;
+            part = grows;
+          };
+          ends = tt;
+        };
+        ends = stands_is;
+        reaches = reaches_is;
+        leads = leads_is;
+      }
+
+    -- ---- ends
+
+    -- all replies are written
+    ended : (e : PipeEnd) (new : Contents D) → Writes e from is.read before.held now.held c → EndsAt e now at buffer → EndsIn e here buffer new
+        → Reaches faults (length is.frames) is.marks old new → Leads seen images moment since (doubts_of from is.frames is.marks) old new
+        → RunsTo seen images faults moment since e before now old new
+    ended e new written ends stands reaches leads = record {
+      course = c;
+      ran = record { read = is.read; taken = is.taken; answered = is.answered; written = written; ends = ends };
+      ends = stands;
+      reaches = reaches;
+      leads = leads;
     }
 
-pub frame_on : (from : Situation) (before now next : Streams) (c d : cores.Database) (buffer : List ℕ) (at : ℕ) (h : Head) (reply : List ℕ)
-    → at < MAX_PLACE → Running from before now c buffer at → IsWholeOf h buffer → Answers c (frame_with h (body_at h.len buffer)) reply d → now.left ≡ next.left → Appends now.held next.held reply
-    → Running from before next d (drop h.len buffer) (at + h.len)
-frame_on from before now next c d buffer at h reply early is w e keeps grows = record {
-  read = is.read;
-  out = is.out ++ reply;
-  consumed = subst (λ (left : Option (List ℕ)). Consumes before.left left is.read) keeps is.consumed;
-  answered = answered_next from c d is.read is.out buffer at h reply early is.answered w e;
-  written = appends_then before.held now.held next.held is.out reply is.written grows;
-}
+    -- memory is wanted for a piece
+    pub piece_ends : at < MAX_PLACE → RunsTo seen images faults moment since end.NoMemory before now old s
+    piece_ends early = ended end.NoMemory s is.written early (inl is.stands) is.reaches is.leads
 
--- ---- ends
+    raised_ends : (new : Contents D) (f : PipeFrame) (more : List ℕ) → front buffer ≡ Whole f more → IsRaised (effective_at s f.moment) s new → EndsIn end.NoMemory here buffer new
+    raised_ends new f more whole (inl same) = inl (same_stands here s new is.stands same)
+    raised_ends new f more whole (inr later) = inr (record {
+      frame = f;
+      more = more;
+      whole = whole;
+      stands = subst (λ (t : ℕ). StandsFor (raised t here) new) (sym (ap (λ (g : ℕ). max (capped_moment f.moment) g) is.stands.greatest)) (raised_stands here s new (effective_at s f.moment) is.stands later);
+    })
 
--- cores of one content stand for the same
-same_stands : (from : Situation) (k : Course) (c d : cores.Database) → SameContent c d → CourseTo from c k → CourseTo from d k
-same_stands from k c d same upto = record {
-  situation = upto.situation;
-  replied = upto.replied;
-  early = upto.early;
-  stands = record {
-    state = upto.stands.state ∙ sym same.state;
-    out = λ id. upto.stands.out id ∙ ap (λ (ids : List MsgId). is_out id ids) (sym same.out);
-    greatest = upto.stands.greatest ∙ sym same.greatest;
-    unstopped = upto.stands.unstopped;
-    unlimited = upto.stands.unlimited;
-  };
-  place = upto.place;
-}
+    raised_reaches : (new : Contents D) (t : ℕ) → IsRaised t s new → Reaches faults (length is.frames) is.marks old new
+    raised_reaches new t (inl same) = reaches_same faults (length is.frames) is.marks old s new is.reaches same.a same.b (ap (λ (x : State). x.number) same.state)
+    raised_reaches new t (inr same) = reaches_same faults (length is.frames) is.marks old s new is.reaches same.a same.b (ap (λ (x : State). x.number) same.state)
 
-pub memory_ends : (from : Situation) (before now : Streams) (c d : cores.Database) (buffer : List ℕ) (at : ℕ) → at < MAX_PLACE → SameContent c d → Running from before now c buffer at
-    → Ran end.NoMemory from before now d
-memory_ends from before now c d buffer at early same is = record {
-  course = record { read = is.read; at = at; out = is.out; rest = buffer };
-  read = is.consumed;
-  answered = same_stands from (record { read = is.read; at = at; out = is.out; rest = buffer }) c d same is.answered;
-  written = is.written;
-  ends = early;
-}
+    -- memory is wanted for a frame
+    pub memory_ends : (new : Contents D) (h : Head) → at < MAX_PLACE → IsWholeOf h buffer → IsRefusedFor seen images moment since s h.moment new → RunsTo seen images faults moment since end.NoMemory before now old new
+    memory_ends new h early w refused =
+        ended end.NoMemory new is.written early (raised_ends new (frame_with h (body_at h.len buffer)) (drop h.len buffer) w.whole refused.raised)
+        (raised_reaches new (effective_at s h.moment) refused.raised)
+        (subst (λ (l : List (ℕ × Commit)). Leads seen images moment since l old new) (append-nil (doubts_of from is.frames is.marks))
+        (leads_then seen images moment since old s new (doubts_of from is.frames is.marks) [] is.leads refused.leads))
 
-pub read_fault_ends : (from : Situation) (before now : Streams) (c : cores.Database) (buffer : List ℕ) (at : ℕ) → at < MAX_PLACE → front buffer ≡ Partial → Running from before now c buffer at → Ran end.ReadFault from before now c
-read_fault_ends from before now c buffer at early part is = record {
-  course = record { read = is.read; at = at; out = is.out; rest = buffer };
-  read = is.consumed;
-  answered = is.answered;
-  written = is.written;
-  ends = record { early = early; part = part };
-}
+    pub read_fault_ends : at < MAX_PLACE → front buffer ≡ Partial → RunsTo seen images faults moment since end.ReadFault before now old s
+    read_fault_ends early part = ended end.ReadFault s is.written (record { early = early; part = part }) is.stands is.reaches is.leads
 
--- the source said End between two frames
-pub input_ends : (from : Situation) (before now : Streams) (c : cores.Database) (buffer : List ℕ) (at : ℕ) → at < MAX_PLACE → buffer ≡ [] → IsAtEnd now.left → Running from before now c buffer at → Ran end.Ok from before now c
-input_ends from before now c buffer at early none last is = record {
-  course = record { read = is.read; at = at; out = is.out; rest = buffer };
-  read = is.consumed;
-  answered = is.answered;
-  written = is.written;
-  ends = record { early = early; none = none; last = last };
-}
+    -- the source said End between two frames
+    pub input_ends : at < MAX_PLACE → buffer ≡ [] → IsAtEnd now.left → RunsTo seen images faults moment since end.Ok before now old s
+    input_ends early none last = ended end.Ok s is.written (record { early = early; none = none; last = last }) is.stands is.reaches is.leads
 
--- no frame begins at the place
-pub bad_frame_ends : (from : Situation) (before now : Streams) (c : cores.Database) (buffer : List ℕ) (at : ℕ) → NoFrame now at buffer → Running from before now c buffer at → Ran (end.BadFrame at) from before now c
-bad_frame_ends from before now c buffer at none is = record {
-  course = record { read = is.read; at = at; out = is.out; rest = buffer };
-  read = is.consumed;
-  answered = is.answered;
-  written = is.written;
-  ends = (refl, none);
-}
+    -- no frame begins at the place
+    pub bad_frame_ends : NoFrame now at buffer → RunsTo seen images faults moment since (end.BadFrame at) before now old s
+    bad_frame_ends none = ended (end.BadFrame at) s is.written (refl, none) is.stands is.reaches is.leads
 
--- the source said End within a frame
-pub cut_ends : (from : Situation) (before now : Streams) (c : cores.Database) (buffer : List ℕ) (at : ℕ) → front buffer ≡ Partial → 0 < length buffer → IsAtEnd now.left → IsTrue now.ended → Running from before now c buffer at → Ran (end.BadFrame at) from before now c
-cut_ends from before now c buffer at part some last said is =
-    bad_frame_ends from before now c buffer at (inr (inl (record { part = part; some = some; last = last; said = said }))) is
+    -- the source said End within a frame
+    pub cut_ends : front buffer ≡ Partial → 0 < length buffer → IsAtEnd now.left → IsTrue now.ended → RunsTo seen images faults moment since (end.BadFrame at) before now old s
+    cut_ends part some last said = bad_frame_ends (inr (inl (record { part = part; some = some; last = last; said = said })))
 
--- the bytes at the front are refused
-pub refused_ends : (from : Situation) (before now : Streams) (c : cores.Database) (buffer : List ℕ) (at : ℕ) → front buffer ≡ Refused → Running from before now c buffer at → Ran (end.BadFrame at) from before now c
-refused_ends from before now c buffer at refused is = bad_frame_ends from before now c buffer at (inl refused) is
+    -- the bytes at the front are refused
+    pub refused_ends : front buffer ≡ Refused → RunsTo seen images faults moment since (end.BadFrame at) before now old s
+    refused_ends refused = bad_frame_ends (inl refused)
 
--- a frame is answered, and the write of the reply fails
-pub fault_ends : (from : Situation) (before now next : Streams) (c d : cores.Database) (buffer : List ℕ) (at : ℕ) (h : Head) (reply : List ℕ)
-    → at < MAX_PLACE → Running from before now c buffer at → IsWholeOf h buffer → Answers c (frame_with h (body_at h.len buffer)) reply d → now.left ≡ next.left
-    → AppendsFront now.held next.held reply → Ran end.WriteFault from before next d
-fault_ends from before now next c d buffer at h reply early is w e keeps grows = record {
-  course = record { read = is.read; at = at + h.len; out = is.out ++ reply; rest = drop h.len buffer };
-  read = subst (λ (left : Option (List ℕ)). Consumes before.left left is.read) keeps is.consumed;
-  answered = answered_next from c d is.read is.out buffer at h reply early is.answered w e;
-  written = record {
-    at = at;
-    rest = buffer;
-    situation = is.answered.situation;
-    frame = frame_with h (body_at h.len buffer);
-    earlier = is.out;
-    last = reply;
-    held = now.held;
-    early = early;
-    place = is.answered.place;
-    replied = is.answered.replied;
-    next = w.whole;
-    reply = sym (e.1 is.answered.situation is.answered.stands).0;
-    out = refl;
-    written = is.written;
-    part = grows;
-  };
-  ends = tt;
-}
-
--- a frame that isn't built
-pub unbuilt_ends : (from : Situation) (before now : Streams) (c d : cores.Database) (buffer : List ℕ) (at : ℕ) (h : Head) → at < MAX_PLACE → SameContent c d → Running from before now c buffer at → IsWholeOf h buffer → is_built h.kind ≡ false
-    → Ran (end.NotBuilt at) from before now d
-unbuilt_ends from before now c d buffer at h early same is w none = record {
-  course = record { read = is.read; at = at; out = is.out; rest = buffer };
-  read = is.consumed;
-  answered = same_stands from (record { read = is.read; at = at; out = is.out; rest = buffer }) c d same is.answered;
-  written = is.written;
-  ends = (refl, record { frame = frame_with h (body_at h.len buffer); more = drop h.len buffer; early = early; whole = w.whole; unbuilt = none });
-}
+    -- a frame that isn't built
+    pub unbuilt_ends : (h : Head) → at < MAX_PLACE → IsWholeOf h buffer → is_built h.kind ≡ false → RunsTo seen images faults moment since (end.NotBuilt at) before now old s
+    unbuilt_ends h early w none =
+        ended (end.NotBuilt at) s is.written (refl, record { frame = frame_with h (body_at h.len buffer); more = drop h.len buffer; early = early; whole = w.whole; unbuilt = none }) is.stands is.reaches is.leads

@@ -1,24 +1,20 @@
 -- How a run over frames may end.
 --     Streams      what a source and a sink tell of their bytes
---     Course, CourseTo from to c      how far a run came, and from which situation to which core
---     Ran e from before after to      a run over these streams, from a situation to a core, ended so
---     RanNew e before after      a run over a new database
+--     Ran e from before after c      a run over these streams, from a situation on, came so far and ended so
 --     HasEndCause e ended read_rose write_rose      what each end needs besides
-use Rattle.std.specs.Prelude.{◌≡◌, ◌⊎◌, ℕ, ◌+◌, ◌<◌, ◌≤◌, Bool, false, List, [], ◌++◌, length, ⊤, IsTrue}
+use Rattle.std.specs.Prelude.{◌≡◌, ◌⊎◌, ℕ, ◌<◌, ◌≤◌, Bool, false, List, [], ◌∷◌, ◌++◌, length, ⊤, IsTrue}
 use Rattle.std.specs.declared.option.Option.{Option}
 use Rattle.std.specs.Io.KnownBytes.{Appends, Consumes, IsAtEnd}
 use Rattle.dkv_io.specs.Streams.{AppendsFront}
 use Rattle.dkv_base.specs.Steps.{Situation}
-use Rattle.dkv_core.specs.Cores as cores
-use Rattle.dkv_core.specs.Runs.{StandsFor}
 use Rattle.dkv_pipe.specs.declared.pipe.PipeEnd.{PipeEnd}
 use Rattle.dkv_pipe.specs.declared.pipe.PipeEnd.TheVariants as end
 use Rattle.dkv_pipe.specs.declared.sizes.TheConstants.{MAX_PLACE}
-use Rattle.dkv_pipe.specs.Frames.{PipeFrame, Whole, Partial, Refused, front, BeginEarly}
+use Rattle.dkv_pipe.specs.Frames.{PipeFrame, Whole, Partial, Refused, front}
 use Rattle.dkv_pipe.specs.Built.{is_built}
 use Rattle.dkv_pipe.specs.Wishes.{readings}
-use Rattle.dkv_pipe.specs.Pipe.{frame_step}
-use Rattle.dkv_pipe.specs.Replied.{started, Replied}
+use Rattle.dkv_pipe.specs.Pipe.{frame_step, after_frames}
+use Rattle.dkv_pipe.specs.Courses.{Course, IsCourse}
 
 -- what the source has left, and whether it said End; what the sink holds
 pub record Streams : Type 0 where
@@ -29,21 +25,6 @@ pub record Streams : Type 0 where
 -- the three of them
 abbrev pub streams : Option (List ℕ) → Bool → Option (List ℕ) → Streams
 streams left ended held = record { left = left; ended = ended; held = held }
-
--- what was read, the place up to which it was answered, by which replies, and what is behind
-pub record Course : Type 0 where
-  pub read : List ℕ
-  pub at : ℕ
-  pub out : List ℕ
-  pub rest : List ℕ
-
--- the frames before the place were replied to so, which leads from the situation to one of the core
-pub record CourseTo (from : Situation) (to : cores.Database) (c : Course) : Type 0 where
-  pub situation : Situation
-  pub replied : Replied from c.read situation c.out c.rest
-  pub early : BeginEarly 0 replied.frames
-  pub stands : StandsFor situation to
-  pub place : length c.read ≡ c.at + length c.rest
 
 -- the source ended within a frame
 pub record IsCut (after : Streams) (rest : List ℕ) : Type 0 where
@@ -85,43 +66,35 @@ EndsAt end.WriteFault after at rest = ⊤
 EndsAt end.NoMemory after at rest = at < MAX_PLACE
 
 -- the write of the last frame's reply failed: the replies to the frames before it were written whole, and of this one a front
-pub record IsLastUnwritten (from : Situation) (old new : Option (List ℕ)) (c : Course) : Type 0 where
-  -- the place of the last frame, what stood there, and where the frames before it lead
-  pub at : ℕ
-  pub rest : List ℕ
-  pub situation : Situation
+pub record IsLastUnwritten (from : Situation) (read : List ℕ) (old new : Option (List ℕ)) (c : Course) : Type 0 where
+  -- how far the run came before the last frame, and that frame
+  pub earlier : Course
   pub frame : PipeFrame
-  -- the replies to the frames before it, and its own
-  pub earlier : List ℕ
+  pub mark : Bool
   pub last : List ℕ
   -- what the sink held between the two
   pub held : Option (List ℕ)
-  pub early : at < MAX_PLACE
-  pub place : length c.read ≡ at + length rest
-  pub replied : Replied from c.read situation earlier rest
-  pub next : front rest ≡ Whole frame c.rest
-  pub reply : last ≡ (frame_step readings situation frame false).0
-  pub out : c.out ≡ earlier ++ last
-  pub written : Appends old held earlier
+  pub answered : IsCourse from read earlier
+  pub next : front earlier.rest ≡ Whole frame c.rest
+  pub frames : c.frames ≡ earlier.frames ++ frame ∷ []
+  pub marks : c.marks ≡ earlier.marks ++ mark ∷ []
+  pub reply : last ≡ (frame_step readings (after_frames readings from earlier.frames earlier.marks) frame mark).0
+  pub out : c.out ≡ earlier.out ++ last
+  pub written : Appends old held earlier.out
   pub part : AppendsFront held new last
 
 -- all of the replies were written, but for the last one where a write failed
-abbrev pub Writes : PipeEnd → Situation → Option (List ℕ) → Option (List ℕ) → Course → Type 0
-Writes end.WriteFault from old new c = IsLastUnwritten from old new c
-Writes _ from old new c = Appends old new c.out
+abbrev pub Writes : PipeEnd → Situation → List ℕ → Option (List ℕ) → Option (List ℕ) → Course → Type 0
+Writes end.WriteFault from read old new c = IsLastUnwritten from read old new c
+Writes _ from read old new c = Appends old new c.out
 
 -- what was read, answered and written, and where that ended
-pub record Ran (e : PipeEnd) (from : Situation) (before after : Streams)
-    (to : cores.Database) : Type 0 where
-  pub course : Course
-  pub read : Consumes before.left after.left course.read
-  pub answered : CourseTo from to course
-  pub written : Writes e from before.held after.held course
-  pub ends : EndsAt e after course.at course.rest
-
--- the same over a new database, whatever became of it
-abbrev pub RanNew : PipeEnd → Streams → Streams → Type 0
-RanNew e before after = (to : cores.Database) × Ran e started before after to
+pub record Ran (e : PipeEnd) (from : Situation) (before after : Streams) (c : Course) : Type 0 where
+  pub read : List ℕ
+  pub taken : Consumes before.left after.left read
+  pub answered : IsCourse from read c
+  pub written : Writes e from read before.held after.held c
+  pub ends : EndsAt e after c.at c.rest
 
 -- what each end needs besides: that the source said End, or which count rose
 abbrev pub HasEndCause : PipeEnd → Bool → Type 0 → Type 0 → Type 0

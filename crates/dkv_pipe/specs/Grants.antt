@@ -1,41 +1,40 @@
--- What a core grants a wish, and so what a frame is answered.
---     ask_of a, made_answer a n      what the call asks for, and its answer where it is commit n
---     Grants c w who at out d      the core c grants the wish by the reply `out`, which leads to the core d
---     Answers c f out d      the same of a frame that is built
-use Rattle.std.specs.Prelude.{◌≡◌, ℕ, true, false, List, IsTrue}
-use Rattle.dkv_base.specs.declared.types.Answer.{Answer}
-use Rattle.dkv_base.specs.declared.types.Answer.TheVariants as answer
-use Rattle.dkv_base.specs.declared.types.Ask.{Ask}
-use Rattle.dkv_base.specs.declared.types.Ask.TheVariants as ask
-use Rattle.dkv_base.specs.declared.types.Call.{Call}
-use Rattle.dkv_base.specs.declared.types.Call.TheVariants as call
+-- What a store grants a wish, and so what a frame is answered.
+--     Grants .. old w who at out new      the old store grants the wish by the reply `out`, which leads to the new one
+--     Answers .. old f out new      the same of a frame that is built
+--     IsRefusedFor .. old at new      memory was wanted for what was asked at this moment
+use Rattle.std.specs.Prelude.{◌≡◌, ℕ, Bool, List, [], ◌∷◌, IsTrue, length}
+use Rattle.std.specs.declared.option.Option.{Option}
 use Rattle.dkv_base.specs.Steps.{Situation}
-use Rattle.dkv_core.specs.Cores as cores
-use Rattle.dkv_core.specs.Runs.{StandsFor}
+use Rattle.dkv_base.specs.Trails.{commits}
+use Rattle.dkv_store.specs.Stores.{Contents, IsRaised, effective_at}
+use Rattle.dkv_store.specs.Situations.{StandsFor}
+use Rattle.dkv_store.specs.Terms.{Leads}
 use Rattle.dkv_pipe.specs.Frames.{PipeFrame}
 use Rattle.dkv_pipe.specs.Wishes.{Wish, readings, wish}
 use Rattle.dkv_pipe.specs.Pipe.{grant}
 use Rattle.dkv_pipe.specs.Built.{is_built}
+use Rattle.dkv_pipe.specs.Courses.{IsMarked}
+use Rattle.dkv_pipe.specs.Doubts.{wish_doubt}
+use Rattle.dkv_pipe.specs.Stores.{Reaches}
 
--- what asks for the call
-abbrev pub ask_of : Call → Ask
-ask_of (call.Write w) = ask.Write w
-ask_of (call.Ack id) = ask.Settle id true
-ask_of (call.Fail id) = ask.Settle id false
-
--- the answer to the call that was made as commit n
-abbrev pub made_answer : Call → ℕ → Answer
-made_answer (call.Write w) n = answer.Written n
-made_answer (call.Ack id) n = answer.Settled n
-made_answer (call.Fail id) n = answer.Settled n
-
--- in each situation of the one core it is granted so, which leads to a situation of the other
-abbrev pub Grants : cores.Database → Wish → ℕ → ℕ → List ℕ → cores.Database → Type 0
-Grants c w who at out d =
-    (s : Situation) → StandsFor s c →
-    let granted = grant w who at false s in (granted.0 ≡ out) × StandsFor granted.1 d
+-- In each situation of the old store the wish is granted so, which leads to a situation of the new one. A mark stands where the disk failed.
+pub record Grants {D : Type 0} (seen : D → Option (List ℕ)) (images : D → List ℕ → Type 0) (faults moment : D → ℕ) (since : D → ℕ → List ℕ → Type 0)
+    (old : Contents D) (w : Wish) (who at : ℕ) (out : List ℕ) (new : Contents D) : Type 0 where
+  pub mark : Bool
+  pub steps : (s : Situation) → StandsFor s old → ((grant w who at mark s).0 ≡ out) × StandsFor (grant w who at mark s).1 new
+  pub marked : IsMarked mark out
+  pub reaches : Reaches faults 1 (mark ∷ []) old new
+  pub leads : Leads seen images moment since (wish_doubt mark w who (effective_at old at) (length (commits old.trail))) old new
 
 -- the frame is built, and what it wants is granted so
-abbrev pub Answers : cores.Database → PipeFrame → List ℕ → cores.Database → Type 0
-Answers c f out d =
-    IsTrue (is_built f.kind) × Grants c (wish readings f.kind f.body) f.caller f.moment out d
+abbrev pub Answers : {D : Type 0} → (D → Option (List ℕ)) → (D → List ℕ → Type 0) → (D → ℕ) → (D → ℕ) → (D → ℕ → List ℕ → Type 0)
+    → Contents D → PipeFrame → List ℕ → Contents D → Type 0
+Answers seen images faults moment since old f out new =
+    IsTrue (is_built f.kind)
+    × Grants seen images faults moment since old (wish readings f.kind f.body) f.caller f.moment out new
+
+-- nothing but the greatest moment may have changed
+pub record IsRefusedFor {D : Type 0} (seen : D → Option (List ℕ)) (images : D → List ℕ → Type 0) (moment : D → ℕ) (since : D → ℕ → List ℕ → Type 0)
+    (old : Contents D) (at : ℕ) (new : Contents D) : Type 0 where
+  pub raised : IsRaised (effective_at old at) old new
+  pub leads : Leads seen images moment since [] old new

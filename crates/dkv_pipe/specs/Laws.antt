@@ -1,14 +1,14 @@
 -- Laws of the frames at the front of an input, and of runs, as statements.
-use Rattle.std.specs.Prelude.{◌≡◌, ℕ, ⊤, false, IsTrue, List, [], ◌++◌}
+use Rattle.std.specs.Prelude.{◌≡◌, ◌⊎◌, ℕ, ⊤, false, IsTrue, List, [], ◌++◌, count_by}
 use Rattle.dkv_base.specs.Fits.{AreBytes}
 use Rattle.dkv_base.specs.Steps.{Situation}
-use Rattle.dkv_core.specs.Cores as cores
+use Rattle.dkv_store.specs.Stores.{IsWithinRise}
 use Rattle.dkv_io.specs.Causes.{Rose}
 use Rattle.dkv_pipe.specs.declared.pipe.PipeEnd.{PipeEnd}
 use Rattle.dkv_pipe.specs.declared.pipe.PipeEnd.TheVariants as end
 use Rattle.dkv_pipe.specs.Frames.{PipeFrame, frame_bytes, is_frame, AreFrames, Whole, Refused, front, Begins}
 use Rattle.dkv_pipe.specs.Built.{is_built}
-use Rattle.dkv_pipe.specs.Replied.{Replied}
+use Rattle.dkv_pipe.specs.Courses.{Course, IsCourse}
 use Rattle.dkv_pipe.specs.Ends.{Streams, Ran, HasEndCause}
 use Rattle.dkv_pipe.specs.Whole.{Completes}
 
@@ -47,12 +47,12 @@ abbrev pub NoBuilt : List ℕ → Type 0
 NoBuilt rest =
     (f : PipeFrame) (more : List ℕ) → front rest ≡ Whole f more → is_built f.kind ≡ false
 
--- bytes that are answered as far as built frames go have one list of replies, lead to one situation, and have one rest
+-- bytes that are answered as far as built frames go, with the same marks, have one course
 abbrev pub OneRun : Type 0
 OneRun =
-    (from : Situation) (input : List ℕ) (s t : Situation) (a b rest last : List ℕ)
-    → Replied from input s a rest → NoBuilt rest → Replied from input t b last → NoBuilt last
-    → (s ≡ t) × (a ≡ b) × (rest ≡ last)
+    (from : Situation) (input : List ℕ) (c d : Course)
+    → IsCourse from input c → NoBuilt c.rest → IsCourse from input d → NoBuilt d.rest
+    → c.marks ≡ d.marks → c ≡ d
 
 -- the end comes of what was read: it is no failed write, and no want of memory
 abbrev pub IsTold : PipeEnd → Type 0
@@ -60,21 +60,22 @@ IsTold end.WriteFault = ⊥
 IsTold end.NoMemory = ⊥
 IsTold _ = ⊤
 
--- runs that read the same bytes and ended so have one course and lead to one situation
+-- runs that read the same bytes, with the same marks, and ended so have one course
 abbrev pub OneCourse : Type 0
 OneCourse =
-    (d e : PipeEnd) (from : Situation) (b c u v : Streams) (x y : cores.Database)
+    (d e : PipeEnd) (from : Situation) (b c u v : Streams) (x y : Course)
     (r : Ran d from b c x) (s : Ran e from u v y)
-    → IsTold d → IsTold e → r.course.read ≡ s.course.read
-    → (r.course ≡ s.course) × (r.answered.situation ≡ s.answered.situation)
+    → IsTold d → IsTold e → r.read ≡ s.read → x.marks ≡ y.marks → x ≡ y
 
 -- ---- all of the input
 
--- a run over whole frames that are built ends at Ok or for want of memory, where no count of faults rose
+-- a run over whole frames that are built ends at Ok or for want of memory, where no count of faults rose and the marks are within the disks' rise
 abbrev pub Complete : Type 0
 Complete =
-    (e : PipeEnd) (from : Situation) (before after : Streams) (to : cores.Database)
-    (read_old read_new write_old write_new : ℕ)
-    → Ran e from before after to
+    (e : PipeEnd) (from : Situation) (before after : Streams) (c : Course)
+    (read_old read_new write_old write_new a_old a_new b_old b_new : ℕ)
+    → Ran e from before after c
     → HasEndCause e after.ended (Rose read_old read_new) (Rose write_old write_new)
+    → IsWithinRise (count_by (λ mark. mark) c.marks) a_old a_new b_old b_new
     → Completes e from before after (Rose read_old read_new) (Rose write_old write_new)
+    (Rose a_old a_new ⊎ Rose b_old b_new)

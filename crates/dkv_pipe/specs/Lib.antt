@@ -4,9 +4,12 @@ pub mod Wishes
 pub mod ReplyFrames
 pub mod Pipe
 pub mod Built
-pub mod Replied
-pub mod Grants
+pub mod Courses
+pub mod Doubts
+pub mod Told
 pub mod Ends
+pub mod Stores
+pub mod Grants
 pub mod Whole
 pub mod Running
 pub mod Laws

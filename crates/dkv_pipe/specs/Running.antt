@@ -1,11 +1,14 @@
 -- A run that goes on.
 --     IsLook look bytes      what a look at some bytes says of their front
---     Running from before now core buffer at      all before `at` is answered, and the buffer was read since
+--     Running .. old before now s buffer at      all before `at` is answered, and the buffer was read since
+--     IsEarlyNumber number at      how many commits there may be at a place
 --     OnOrEnds progress on ends      what holds where a step goes on, or where it ends the run
-use Rattle.std.specs.Prelude.{◌≡◌, ℕ, ◌+◌, ◌-◌, ◌^◌, ◌<◌, ◌≤◌, IsTrue, List, length, take, drop}
+use Rattle.std.specs.Prelude.{◌≡◌, ℕ, ◌+◌, ◌-◌, ◌*◌, ◌^◌, ◌<◌, ◌≤◌, Bool, IsTrue, List, length, take, drop}
 use Rattle.std.specs.Io.KnownBytes.{Appends, Consumes}
-use Rattle.dkv_base.specs.Steps.{Situation}
-use Rattle.dkv_core.specs.Cores as cores
+use Rattle.std.specs.declared.option.Option.{Option}
+use Rattle.dkv_store.specs.Stores.{Contents}
+use Rattle.dkv_store.specs.Situations.{StandsFor}
+use Rattle.dkv_store.specs.Terms.{Leads}
 use Rattle.dkv_pipe.specs.declared.frames.Head.{Head}
 use Rattle.dkv_pipe.specs.declared.frames.Look.{Look}
 use Rattle.dkv_pipe.specs.declared.frames.Look.TheVariants as look
@@ -15,7 +18,12 @@ use Rattle.dkv_pipe.specs.declared.pipe.Progress.TheVariants as progress
 use Rattle.dkv_pipe.specs.declared.sizes.TheConstants.{BODY_PLACE, MAX_FRAME_BYTES}
 use Rattle.dkv_pipe.specs.Frames.{PipeFrame, is_body_length, front}
 use Rattle.dkv_pipe.specs.Frames as frames
-use Rattle.dkv_pipe.specs.Ends.{Streams, CourseTo}
+use Rattle.dkv_pipe.specs.Wishes.{readings}
+use Rattle.dkv_pipe.specs.Pipe.{after_frames}
+use Rattle.dkv_pipe.specs.Courses.{IsCourse, situation_of}
+use Rattle.dkv_pipe.specs.Doubts.{doubts_of}
+use Rattle.dkv_pipe.specs.Ends.{Streams}
+use Rattle.dkv_pipe.specs.Stores.{Reaches}
 
 -- the frame with this head and body
 abbrev pub frame_with : Head → List ℕ → PipeFrame
@@ -38,14 +46,23 @@ IsLook (look.Whole head) bytes = IsWholeOf head bytes
 IsLook look.Partial bytes = (front bytes ≡ frames.Partial) × (length bytes < MAX_FRAME_BYTES)
 IsLook look.Refused bytes = front bytes ≡ frames.Refused
 
--- all before the place was read, answered and written, and the buffer has what was read since
-pub record Running (from : Situation) (before now : Streams) (core : cores.Database)
-    (buffer : List ℕ) (at : ℕ) : Type 0 where
+-- all before the place was read, answered and written, which led to this store, and the buffer has what was read since
+pub record Running {D : Type 0} (seen : D → Option (List ℕ)) (images : D → List ℕ → Type 0) (faults moment : D → ℕ) (since : D → ℕ → List ℕ → Type 0)
+    (old : Contents D) (before now : Streams) (s : Contents D) (buffer : List ℕ) (at : ℕ) : Type 0 where
   pub read : List ℕ
+  pub frames : List PipeFrame
+  pub marks : List Bool
   pub out : List ℕ
-  pub consumed : Consumes before.left now.left read
-  pub answered : CourseTo from core (record { read = read; at = at; out = out; rest = buffer })
+  pub taken : Consumes before.left now.left read
+  pub answered : IsCourse (situation_of old) read (record { frames = frames; marks = marks; at = at; out = out; rest = buffer })
   pub written : Appends before.held now.held out
+  pub stands : StandsFor (after_frames readings (situation_of old) frames marks) s
+  pub reaches : Reaches faults (length frames) marks old s
+  pub leads : Leads seen images moment since (doubts_of (situation_of old) frames marks) old s
+
+-- few commits were made, so that their numbers never run out: a frame is no shorter than its head
+abbrev pub IsEarlyNumber : ℕ → ℕ → Type 0
+IsEarlyNumber number at = BODY_PLACE * number < BODY_PLACE * 2 ^ 62 + at
 
 -- a step goes on, or ends the run
 abbrev pub OnOrEnds : Progress → Type 0 → (PipeEnd → Type 0) → Type 0

@@ -1,6 +1,6 @@
 -- When a run answers all of its input.
 --     IsWholeInput left frames      what the source has left is these frames, all of them built
---     Completes e from before after read_rose write_rose      such an input is answered to its end
+--     Completes e from before after read_rose write_rose disk_rose      such an input is answered to its end
 use Rattle.std.specs.Prelude.{◌≡◌, ℕ, ◌<◌, ⊤, IsTrue, All, List, [], length, Some}
 use Rattle.std.specs.declared.option.Option.{Option}
 use Rattle.std.specs.Io.KnownBytes.{Appends}
@@ -28,8 +28,8 @@ OnlyOk end.Ok P = P
 OnlyOk end.NoMemory P = ⊤
 OnlyOk _ P = ⊥
 
--- such an input is answered to its end where no count of faults rose: just the replies to its frames are written
-abbrev pub Completes : PipeEnd → Situation → Streams → Streams → Type 0 → Type 0 → Type 0
-Completes e from before after read_rose write_rose =
-    (frames : List PipeFrame) → IsWholeInput before.left frames → ¬ read_rose → ¬ write_rose
+-- such an input is answered to its end where no count of faults rose: just the replies to its frames are written, without marks
+abbrev pub Completes : PipeEnd → Situation → Streams → Streams → Type 0 → Type 0 → Type 0 → Type 0
+Completes e from before after read_rose write_rose disk_rose =
+    (frames : List PipeFrame) → IsWholeInput before.left frames → ¬ read_rose → ¬ write_rose → ¬ disk_rose
     → OnlyOk e (Appends before.held after.held (replies_from readings from frames []))

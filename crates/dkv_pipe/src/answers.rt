@@ -1,28 +1,27 @@
-// The reply to each frame, and what it changes in the core.
-ghost use Rattle.std.specs.Prelude.{ℕ, ◌≡◌, ◌+◌, ◌-◌, ◌^◌, ◌<◌, ◌≤◌, false, None, length, IfOk, IsErrOf, IsTrue, OnErr};
+// The reply to each frame, and what it changes in the store.
+ghost use Rattle.std.specs.Prelude.{◌≡◌, ◌-◌, ◌^◌, ◌<◌, ◌≤◌, ℕ, None, length, IfOk, IsErrOf, IsTrue, OnErr, false};
 ghost use Rattle.dkv_base.specs.declared.types.Ask.TheVariants.{Read, Write, Take};
-ghost use Rattle.dkv_base.specs.Limits.{read_limit};
-ghost use Rattle.dkv_base.specs.Replies.{read_reply};
-ghost use Rattle.dkv_msgs.specs.Outputs.{read_output};
-ghost use Rattle.dkv_msgs.specs.Spellings.{spell_snapshot_read_output};
-ghost use Rattle.dkv_core.specs.Cores.{IsEffective, SameContent};
+ghost use Rattle.dkv_base.specs.Fits.{AreBytes};
 ghost use Rattle.dkv_core.specs.Decisions.{may_ask};
+ghost use Rattle.dkv_store.specs.Situations.{ask_of};
+ghost use Rattle.dkv_store.specs.Stores.{IsShort, effective_at};
 ghost use Rattle.dkv_pipe.specs.Frames.{is_body_length};
 ghost use Rattle.dkv_pipe.specs.Wishes.{asks, readings, wish_of_read};
 ghost use Rattle.dkv_pipe.specs.Built.{is_built};
-ghost use Rattle.dkv_pipe.specs.Grants.{Answers, Grants, ask_of};
+ghost use Rattle.dkv_pipe.specs.Grants.{Answers, Grants, IsRefusedFor};
 ghost use Rattle.dkv_pipe.specs.Running.{frame_with};
+ghost use Rattle.dkv_base.specs.declared.limits.TheConstants.{MAX_REQUEST_BYTES};
 
 use crate::frame_kind::FrameKind;
 use crate::frames::{Head, id_of};
-use crate::replies::{leased, limited, made, malformed, no_lease, nothing, reply_frame};
-use crate::reply_status::ReplyStatus;
+use crate::replies::{done, is_write, limited, malformed, no_lease, tell, tell_take};
+use crate::reply::Reply;
 use dkv_atomic::read_limits;
-use dkv_base::{Bytes, Call, NoMemory, ReadRange};
-use dkv_core::{Core, Decided, NextDue};
-use dkv_msgs::{
-    RequestError, fails_reply, read_reply, request_atomic_write, request_snapshot_read,
-};
+use dkv_base::{Call, NoMemory, ReadRange};
+use dkv_io::Disk;
+use dkv_msgs::{RequestError, request_atomic_write, request_snapshot_read};
+use dkv_record::requests_fit;
+use dkv_store::Store;
 use std::alloc::Global;
 use thiserror::Error;
 
@@ -47,190 +46,176 @@ impl From<NoMemory> for Unanswered {
     }
 }
 
-// The entries of these ranges at an effective moment, spelled as they stand in the core.
-fn found_reply(core: &Core, alloc: Global, ranges: &[ReadRange], at: u64) -> Result<Bytes, NoMemory>
-    requires unlimited { read_limit ranges.now ≡ None }
-    requires effective { IsEffective core.now at }
-    ensures { IfOk result (λ body.
-        body ≡ spell_snapshot_read_output (read_output (read_reply core.now.state at ranges.now))) }
-{
-    let found = core.find(alloc, ranges, at)?;
-    read_reply(alloc, found.as_slice())
-}
-
 // The reply to a read of these ranges.
-fn read_ranges(
-    core: &mut Core,
+fn read_ranges<D: Disk>(
+    store: &mut Store<D>,
     alloc: Global,
     moment: u64,
     ranges: &[ReadRange],
-) -> Result<Bytes, NoMemory>
-    ensures reply { IfOk result (λ out.
-        (who : ℕ) → Grants core.old (asks (Read ranges.now)) who moment out core.new) }
-    ensures state { core.new.state ≡ core.old.state }
-    ensures same { OnErr result (SameContent core.old core.new) }
+) -> Result<Reply, NoMemory>
+    ensures reply { IfOk result (λ out. (who : ℕ) →
+        Grants D.seen D.may_leave D.faults D.moment D.left_since
+        store.old (asks (Read ranges.now)) who moment out store.new) }
+    ensures none { OnErr result
+        (IsRefusedFor D.seen D.may_leave D.moment D.left_since store.old moment store.new) }
 {
     if let Some(passed) = read_limits(ranges) {
-        return limited(alloc, passed);
+        return Ok(limited(alloc, passed));
     }
-    let effective = core.moment(moment);
-    let body = found_reply(core, alloc, ranges, effective)?;
-    let reply = reply_frame(alloc, ReplyStatus::Done, body.as_slice())?;
-    core.raise(effective);
-    Ok(reply)
+    Ok(done(store.spell_read(alloc, moment, ranges)?))
 }
 
 // The reply to a body that asks for a read.
-fn answer_read(core: &mut Core, alloc: Global, moment: u64, body: &[u8]) -> Result<Bytes, NoMemory>
+fn answer_read<D: Disk>(
+    store: &mut Store<D>,
+    alloc: Global,
+    moment: u64,
+    body: &[u8],
+) -> Result<Reply, NoMemory>
     ensures reply { IfOk result (λ out. (who : ℕ) →
-        Grants core.old (wish_of_read Read (readings.read_of body.now)) who moment out core.new) }
-    ensures state { core.new.state ≡ core.old.state }
-    ensures same { OnErr result (SameContent core.old core.new) }
+        Grants D.seen D.may_leave D.faults D.moment D.left_since
+        store.old (wish_of_read Read (readings.read_of body.now)) who moment out store.new) }
+    ensures none { OnErr result
+        (IsRefusedFor D.seen D.may_leave D.moment D.left_since store.old moment store.new) }
 {
     match request_snapshot_read(alloc, body) {
-        Ok(request) => read_ranges(core, alloc, moment, request.ranges.as_slice()),
-        Err(RequestError::Malformed { at }) => malformed(alloc, at),
-        Err(RequestError::Limit(passed)) => limited(alloc, passed),
+        Ok(request) => read_ranges(store, alloc, moment, request.ranges.as_slice()),
+        Err(RequestError::Malformed { at }) => Ok(malformed(alloc, at)),
+        Err(RequestError::Limit(passed)) => Ok(limited(alloc, passed)),
         Err(RequestError::NoMemory) => Err(NoMemory),
     }
 }
 
-// The reply to a call that may be made, and the commit where it goes. All memory is taken before
-// anything changes.
-fn make(
-    core: &mut Core,
+// The reply to a call that may be made.
+fn make<D: Disk>(
+    store: &mut Store<D>,
     alloc: Global,
     who: u32,
     moment: u64,
-    call: &Call,
-) -> Result<Bytes, NoMemory>
-    requires numbered { core.old.state.number < 2 ^ 64 - 1 }
-    requires out { IsTrue (may_ask core.old call.now) }
+    call: Call,
+) -> Result<Reply, NoMemory>
+    requires numbered { store.old.core.state.number < 2 ^ 63 - 1 }
+    requires out { IsTrue (may_ask store.old.core call) }
+    requires short { IsShort store.old who (effective_at store.old moment) call }
     ensures reply { IfOk result (λ out.
-        Grants core.old (asks (ask_of call.now)) who moment out core.new) }
-    ensures next { core.new.state.number ≤ core.old.state.number + 1 }
-    ensures same { OnErr result (SameContent core.old core.new) }
+        Grants D.seen D.may_leave D.faults D.moment D.left_since
+        store.old (asks (ask_of call)) who moment out store.new) }
+    ensures none { OnErr result
+        (IsRefusedFor D.seen D.may_leave D.moment D.left_since store.old moment store.new) }
 {
-    let at = core.moment(moment);
-    match core.prepare(alloc, who, at, call)? {
-        Decided::Limit(passed) => limited(alloc, passed),
-        Decided::Fails(places) => {
-            let body = fails_reply(alloc, places)?;
-            let reply = reply_frame(alloc, ReplyStatus::Done, body.as_slice())?;
-            core.raise(at);
-            Ok(reply)
-        }
-        Decided::NotU64 { index } => {
-            let reply = reply_frame(alloc, ReplyStatus::NotU64, &index.to_le_bytes())?;
-            core.raise(at);
-            Ok(reply)
-        }
-        Decided::Goes(prepared) => match made(alloc, call, core.number() + 1) {
-            Ok(reply) => {
-                let _number = core.apply(prepared);
-                Ok(reply)
-            }
-            Err(NoMemory) => {
-                core.drop_prepared(prepared);
-                Err(NoMemory)
-            }
-        },
-    }
+    store.is_kept();
+    let writes = is_write(&call);
+    let came = store.commit(alloc, who, moment, call);
+    tell(alloc, writes, came)
 }
 
 // The reply to a call.
-fn answer_call(
-    core: &mut Core,
+fn answer_call<D: Disk>(
+    store: &mut Store<D>,
     alloc: Global,
     who: u32,
     moment: u64,
-    call: &Call,
-) -> Result<Bytes, NoMemory>
-    requires { core.old.state.number < 2 ^ 64 - 1 }
+    call: Call,
+) -> Result<Reply, NoMemory>
+    requires numbered { store.old.core.state.number < 2 ^ 63 - 1 }
+    requires short { IsShort store.old who (effective_at store.old moment) call }
     ensures reply { IfOk result (λ out.
-        Grants core.old (asks (ask_of call.now)) who moment out core.new) }
-    ensures next { core.new.state.number ≤ core.old.state.number + 1 }
-    ensures same { OnErr result (SameContent core.old core.new) }
+        Grants D.seen D.may_leave D.faults D.moment D.left_since
+        store.old (asks (ask_of call)) who moment out store.new) }
+    ensures none { OnErr result
+        (IsRefusedFor D.seen D.may_leave D.moment D.left_since store.old moment store.new) }
 {
-    if core.may_ask(call) {
-        make(core, alloc, who, moment, call)
+    if store.may_ask(&call) {
+        make(store, alloc, who, moment, call)
     } else {
-        no_lease(alloc)
+        Ok(no_lease(alloc))
     }
 }
 
+// What memory holds is bytes.
+fn are_bytes(body: &[u8])
+    ensures { AreBytes body.now }
+{
+    let _first = body.first();
+}
+
 // The reply to a body that asks for a write.
-fn answer_write(
-    core: &mut Core,
+fn answer_write<D: Disk>(
+    store: &mut Store<D>,
     alloc: Global,
     who: u32,
     moment: u64,
     body: &[u8],
-) -> Result<Bytes, NoMemory>
-    requires { core.old.state.number < 2 ^ 64 - 1 }
+) -> Result<Reply, NoMemory>
+    requires numbered { store.old.core.state.number < 2 ^ 63 - 1 }
+    requires fits { length body.now ≤ MAX_REQUEST_BYTES }
     ensures reply { IfOk result (λ out.
-        Grants core.old (wish_of_read Write (readings.write_of body.now)) who moment out core.new) }
-    ensures next { core.new.state.number ≤ core.old.state.number + 1 }
-    ensures same { OnErr result (SameContent core.old core.new) }
+        Grants D.seen D.may_leave D.faults D.moment D.left_since
+        store.old (wish_of_read Write (readings.write_of body.now)) who moment out store.new) }
+    ensures none { OnErr result
+        (IsRefusedFor D.seen D.may_leave D.moment D.left_since store.old moment store.new) }
 {
+    requests_fit();
+    are_bytes(body);
     match request_atomic_write(alloc, body) {
-        Ok(request) => answer_call(core, alloc, who, moment, &Call::Write(request)),
-        Err(RequestError::Malformed { at }) => malformed(alloc, at),
-        Err(RequestError::Limit(passed)) => limited(alloc, passed),
+        Ok(request) => answer_call(store, alloc, who, moment, Call::Write(request)),
+        Err(RequestError::Malformed { at }) => Ok(malformed(alloc, at)),
+        Err(RequestError::Limit(passed)) => {
+            store.is_kept();
+            Ok(limited(alloc, passed))
+        }
         Err(RequestError::NoMemory) => Err(NoMemory),
     }
 }
 
-// The reply to a take. All memory is taken before the message is out.
-fn answer_take(core: &mut Core, alloc: Global, moment: u64) -> Result<Bytes, NoMemory>
+// The reply to a take.
+fn answer_take<D: Disk>(
+    store: &mut Store<D>,
+    alloc: Global,
+    who: u32,
+    moment: u64,
+) -> Result<Reply, NoMemory>
     ensures reply { IfOk result (λ out.
-        (who : ℕ) → Grants core.old (asks Take) who moment out core.new) }
-    ensures state { core.new.state ≡ core.old.state }
-    ensures same { OnErr result (SameContent core.old core.new) }
+        Grants D.seen D.may_leave D.faults D.moment D.left_since
+        store.old (asks Take) who moment out store.new) }
+    ensures none { OnErr result
+        (IsRefusedFor D.seen D.may_leave D.moment D.left_since store.old moment store.new) }
 {
-    let at = core.moment(moment);
-    match core.due(at) {
-        NextDue::Message(message) => {
-            let id = message.id;
-            let reply = leased(alloc, message)?;
-            core.lease(id);
-            core.raise(at);
-            Ok(reply)
-        }
-        NextDue::Nothing { next } => {
-            let reply = nothing(alloc, next)?;
-            core.raise(at);
-            Ok(reply)
-        }
-    }
+    store.is_kept();
+    let came = store.take(alloc, who, moment);
+    tell_take(alloc, came)
 }
 
-/// The reply to a frame with this head and body. Where there is none, the core keeps its content.
-pub(crate) fn answer(
-    core: &mut Core,
+/// The reply to a frame with this head and body. Where there is none, nothing but the store's
+/// greatest moment may have changed.
+pub(crate) fn answer<D: Disk>(
+    store: &mut Store<D>,
     alloc: Global,
     head: Head,
     body: &[u8],
-) -> Result<Bytes, Unanswered>
-    requires numbered { core.old.state.number < 2 ^ 64 - 1 }
+) -> Result<Reply, Unanswered>
+    requires numbered { store.old.core.state.number < 2 ^ 63 - 1 }
     requires fits { IsTrue (is_body_length head.kind (length body.now)) }
-    ensures ok { IfOk result (λ out. Answers core.old (frame_with head body.now) out core.new) }
-    ensures unbuilt { IsErrOf result Unanswered.NotBuilt → is_built head.kind ≡ false }
-    ensures next { core.new.state.number ≤ core.old.state.number + 1 }
-    ensures same { OnErr result (SameContent core.old core.new) }
+    ensures ok { IfOk result (λ out. Answers D.seen D.may_leave D.faults D.moment D.left_since
+        store.old (frame_with head body.now) out store.new) }
+    ensures unbuilt { IsErrOf result Unanswered.NotBuilt
+        → (is_built head.kind ≡ false) × (store.new ≡ store.old) }
+    ensures none { IsErrOf result Unanswered.NoMemory
+        → IsRefusedFor D.seen D.may_leave D.moment D.left_since
+        store.old head.moment store.new }
 {
     let (who, moment) = (head.caller, head.moment);
     match head.kind {
-        FrameKind::Read => Ok(answer_read(core, alloc, moment, body)?),
-        FrameKind::Write => Ok(answer_write(core, alloc, who, moment, body)?),
-        FrameKind::Take => Ok(answer_take(core, alloc, moment)?),
+        FrameKind::Read => Ok(answer_read(store, alloc, moment, body)?),
+        FrameKind::Write => Ok(answer_write(store, alloc, who, moment, body)?),
+        FrameKind::Take => Ok(answer_take(store, alloc, who, moment)?),
         FrameKind::Acknowledge => {
             let call = Call::Ack(id_of(body));
-            Ok(answer_call(core, alloc, who, moment, &call)?)
+            Ok(answer_call(store, alloc, who, moment, call)?)
         }
         FrameKind::Fail => {
             let call = Call::Fail(id_of(body));
-            Ok(answer_call(core, alloc, who, moment, &call)?)
+            Ok(answer_call(store, alloc, who, moment, call)?)
         }
         FrameKind::Watch | FrameKind::Poll | FrameKind::Checkpoint | FrameKind::Term => {
             Err(Unanswered::NotBuilt)

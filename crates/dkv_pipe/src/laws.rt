@@ -2,8 +2,9 @@
 
 ghost use Rattle.dkv_pipe.specs.Laws.{BeginsNoFrame, Complete, FramesBegin, FrontIsFrame, OneCourse, OneRun, RefusedStays};
 
-/// Bytes have one list of replies, lead to one situation and have one rest. So runs that read the
-/// same bytes have one course, unless a write failed or memory was wanted.
+/// With the same marks, bytes have one list of replies and one rest. So runs that read the same bytes
+/// and met the disk's faults at the same frames have one course, unless a write failed or memory was
+/// wanted.
 pub fn one_run()
     ensures run { OneRun }
     ensures course { OneCourse }
@@ -22,8 +23,8 @@ pub fn refused_stays()
     ensures never { BeginsNoFrame }
 {}
 
-/// A run over whole frames that are built answers all of them, where no count of faults rose and
-/// memory sufficed.
+/// A run over whole frames that are built answers all of them, where no count of faults rose, the
+/// marks are within the disks' rise and memory sufficed.
 pub fn whole_frames_are_answered()
     ensures { Complete }
 {}

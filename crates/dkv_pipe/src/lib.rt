@@ -1,9 +1,10 @@
-//! The pipe: frames of requests in, frames of replies out, over the database of one thread.
+//! The pipe: frames of requests in, frames of replies out, over a store.
 //!
-//! The layer above may rely on this: what was written is the stated function of what was read, as
-//! far as source and sink tell their bytes, the end says where the run stopped and why, the core that
-//! is given back is where the answered frames lead, and an input of whole frames has one list of
-//! replies.
+//! The layer above may rely on this: what was written is the stated function of what was read and of
+//! the marks where the disk failed, as far as source and sink tell their bytes; marks are no more than
+//! the faults that the disks counted; the end says where the run stopped and why; the store that is
+//! given back is where the answered frames lead; stopped at any moment, its files recover to a state
+//! of the term; and an input of whole frames has, with its marks, one list of replies.
 #![tactic(auto)]
 
 mod answers;
@@ -13,6 +14,7 @@ mod input;
 mod laws;
 mod pipe;
 mod replies;
+mod reply;
 mod reply_status;
 pub mod sizes;
 

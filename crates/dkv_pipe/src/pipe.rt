@@ -1,20 +1,21 @@
 // Runs over frames: read, answer, write, and how that may end.
-ghost use Rattle.std.specs.Prelude.{◌≡◌, ◌<◌, ◌≤◌, ◌+◌, ◌^◌, List, ℕ, length, ⊤, Bool, false};
+ghost use Rattle.std.specs.Prelude.{◌≡◌, ◌⊎◌, ◌<◌, ◌≤◌, ◌+◌, ◌^◌, List, ℕ, length, ⊤, Bool, false};
 ghost use Rattle.std.specs.declared.option.Option.{Option};
-ghost use Rattle.dkv_base.specs.Steps.{Situation};
 ghost use Rattle.dkv_io.specs.Causes.{Rose};
-ghost use Rattle.dkv_core.specs.Runs.{situation_of};
+ghost use Rattle.dkv_store.specs.Stores.{Contents};
+ghost use Rattle.dkv_pipe.specs.Courses.{situation_of};
 ghost use Rattle.dkv_pipe.specs.Frames.{front, Partial};
-ghost use Rattle.dkv_pipe.specs.Ends.{HasEndCause, Ran, Streams, streams};
+ghost use Rattle.dkv_pipe.specs.Ends.{HasEndCause, Streams, streams};
+ghost use Rattle.dkv_pipe.specs.Stores.{RunsTo};
 ghost use Rattle.dkv_pipe.specs.Whole.{Completes};
-ghost use Rattle.dkv_pipe.specs.Running.{Running, OnOrEnds, IsWholeOf, to_do};
+ghost use Rattle.dkv_pipe.specs.Running.{Running, IsEarlyNumber, OnOrEnds, IsWholeOf, to_do};
 
 use crate::answers::{Unanswered, answer};
 use crate::frames::{Head, Look, look_at};
 use crate::input::Input;
 use crate::sizes::{BODY_PLACE, MAX_PLACE, PIECE_BYTES};
-use dkv_core::Core;
-use dkv_io::{Got, Sink, Source};
+use dkv_io::{Disk, Got, Sink, Source};
+use dkv_store::Store;
 use std::alloc::Global;
 
 /// How a run over frames ended.
@@ -41,15 +42,15 @@ pub(crate) enum Progress {
     Ends(PipeEnd),
 }
 
-// A run over frames: the core, what was read from `at` on, and the place of that frame.
+// A run over frames: the store, what was read from `at` on, and the place of that frame.
 #[derive(Drop)]
-struct Pipe {
-    core: Core,
+struct Pipe<D: Disk> {
+    store: Store<D>,
     input: Input,
     at: u64,
 }
 
-impl Pipe {
+impl<D: Disk> Pipe<D> {
     // Takes more of the source into the input, which has less than a frame, by way of the piece.
     fn more<S: Source>(
         &mut self,
@@ -59,19 +60,22 @@ impl Pipe {
     ) -> Progress
         requires part { front self.old.input ≡ Partial }
         requires early { self.old.at < MAX_PLACE }
-        ensures run { (from : Situation) (before : Streams) (held : Option (List ℕ)) →
+        ensures run { (from : Contents D) (before : Streams) (held : Option (List ℕ)) →
             let old = streams (S.left source.old) (S.ended source.old) held in
             let new = streams (S.left source.new) (S.ended source.new) held in
-            Running from before old self.old.core self.old.input self.old.at
+            Running D.seen D.may_leave D.faults D.moment D.left_since
+            from before old self.old.store self.old.input self.old.at
             → OnOrEnds result
-            (Running from before new self.new.core self.new.input self.new.at)
-            (λ end. Ran end from before new self.new.core) }
+            (Running D.seen D.may_leave D.faults D.moment D.left_since
+            from before new self.new.store self.new.input self.new.at)
+            (λ end. RunsTo D.seen D.may_leave D.faults D.moment D.left_since
+            end before new from self.new.store) }
         ensures cause { OnOrEnds result ⊤ (λ end.
             HasEndCause end (S.ended source.new)
             (Rose (S.faults source.old) (S.faults source.new)) ⊥) }
         ensures later { S.faults source.old ≤ S.faults source.new }
         ensures at { self.new.at ≡ self.old.at }
-        ensures core { self.new.core ≡ self.old.core }
+        ensures store { self.new.store ≡ self.old.store }
         ensures grows { OnOrEnds result (length self.old.input < length self.new.input) (λ _. ⊤) }
     {
         match source.read(piece) {
@@ -94,33 +98,36 @@ impl Pipe {
     fn frame<K: Sink>(&mut self, alloc: Global, sink: &mut K, head: Head) -> Progress
         requires whole { IsWholeOf head self.old.input }
         requires early { self.old.at < MAX_PLACE }
-        requires number { self.old.core.state.number < 2 ^ 63 + self.old.at }
-        ensures run { (from : Situation) (before : Streams)
+        requires number { IsEarlyNumber self.old.store.core.state.number self.old.at }
+        ensures run { (from : Contents D) (before : Streams)
             (left : Option (List ℕ)) (ended : Bool) →
             let old = streams left ended (K.held sink.old) in
             let new = streams left ended (K.held sink.new) in
-            Running from before old self.old.core self.old.input self.old.at
+            Running D.seen D.may_leave D.faults D.moment D.left_since
+            from before old self.old.store self.old.input self.old.at
             → OnOrEnds result
-            (Running from before new self.new.core self.new.input self.new.at)
-            (λ end. Ran end from before new self.new.core) }
+            (Running D.seen D.may_leave D.faults D.moment D.left_since
+            from before new self.new.store self.new.input self.new.at)
+            (λ end. RunsTo D.seen D.may_leave D.faults D.moment D.left_since
+            end before new from self.new.store) }
         ensures cause { OnOrEnds result ⊤ (λ end.
             HasEndCause end false ⊥ (Rose (K.faults sink.old) (K.faults sink.new))) }
         ensures later { K.faults sink.old ≤ K.faults sink.new }
         ensures at { OnOrEnds result (self.new.at ≡ self.old.at + head.len) (λ _. ⊤) }
         ensures number { OnOrEnds result
-            (self.new.core.state.number < 2 ^ 63 + self.new.at)
+            (IsEarlyNumber self.new.store.core.state.number self.new.at)
             (λ _. ⊤) }
         ensures len { OnOrEnds result
             (length self.new.input + head.len ≡ length self.old.input)
             (λ _. ⊤) }
     {
         let body = &self.input.as_slice()[BODY_PLACE..head.len];
-        let reply = match answer(&mut self.core, alloc, head, body) {
+        let reply = match answer(&mut self.store, alloc, head, body) {
             Ok(reply) => reply,
             Err(Unanswered::NotBuilt) => return Progress::Ends(PipeEnd::NotBuilt { at: self.at }),
             Err(Unanswered::NoMemory) => return Progress::Ends(PipeEnd::NoMemory),
         };
-        match sink.write(reply.as_slice()) {
+        match reply.write_to(sink) {
             Ok(()) => {
                 self.input.skip(head.len);
                 self.at += head.len as u64;
@@ -138,21 +145,24 @@ impl Pipe {
         sink: &mut K,
         piece: &mut [u8; PIECE_BYTES],
     ) -> Progress
-        requires { self.old.core.state.number < 2 ^ 63 + self.old.at }
-        ensures run { (from : Situation) (before : Streams) →
+        requires { IsEarlyNumber self.old.store.core.state.number self.old.at }
+        ensures run { (from : Contents D) (before : Streams) →
             let old = streams (S.left source.old) (S.ended source.old) (K.held sink.old) in
             let new = streams (S.left source.new) (S.ended source.new) (K.held sink.new) in
-            Running from before old self.old.core self.old.input self.old.at
+            Running D.seen D.may_leave D.faults D.moment D.left_since
+            from before old self.old.store self.old.input self.old.at
             → OnOrEnds result
-            (Running from before new self.new.core self.new.input self.new.at)
-            (λ end. Ran end from before new self.new.core) }
+            (Running D.seen D.may_leave D.faults D.moment D.left_since
+            from before new self.new.store self.new.input self.new.at)
+            (λ end. RunsTo D.seen D.may_leave D.faults D.moment D.left_since
+            end before new from self.new.store) }
         ensures cause { OnOrEnds result ⊤ (λ end. HasEndCause end (S.ended source.new)
             (Rose (S.faults source.old) (S.faults source.new))
             (Rose (K.faults sink.old) (K.faults sink.new))) }
         ensures source { S.faults source.old ≤ S.faults source.new }
         ensures sink { K.faults sink.old ≤ K.faults sink.new }
         ensures number { OnOrEnds result
-            (self.new.core.state.number < 2 ^ 63 + self.new.at)
+            (IsEarlyNumber self.new.store.core.state.number self.new.at)
             (λ _. ⊤) }
         ensures progress { OnOrEnds result
             (to_do self.new.at (length self.new.input) < to_do self.old.at (length self.old.input))
@@ -169,33 +179,35 @@ impl Pipe {
     }
 }
 
-/// Answers the frames of a source, one after the other, over a core, and gives it back. Each reply
-/// is written before the next frame is looked at. It waits where the source does.
-pub fn run_pipe<S: Source, K: Sink>(
+/// Answers the frames of a source, one after the other, over a store, and gives it back. Each reply
+/// is written before the next frame is looked at. It waits where the source or the sink does.
+pub fn run_pipe<S: Source, K: Sink, D: Disk>(
     alloc: Global,
     source: &mut S,
     sink: &mut K,
-    core: Core,
-) -> (PipeEnd, Core)
-    requires { core.state.number < 2 ^ 63 }
+    store: Store<D>,
+) -> (PipeEnd, Store<D>)
+    requires { store.core.state.number < 2 ^ 62 }
     // What was read, answered and written, as far as source and sink tell it, and where that leads.
-    ensures run { Ran result.0 (situation_of core)
+    ensures run { RunsTo D.seen D.may_leave D.faults D.moment D.left_since result.0
         (streams (S.left source.old) (S.ended source.old) (K.held sink.old))
         (streams (S.left source.new) (S.ended source.new) (K.held sink.new))
-        result.1 }
+        store result.1 }
     // Told or not: why it ended so.
     ensures cause { HasEndCause result.0 (S.ended source.new)
         (Rose (S.faults source.old) (S.faults source.new))
         (Rose (K.faults sink.old) (K.faults sink.new)) }
     // An input of whole frames that are built is answered to its end, where no count of faults rose.
-    ensures complete { Completes result.0 (situation_of core)
+    ensures complete { Completes result.0 (situation_of store)
         (streams (S.left source.old) (S.ended source.old) (K.held sink.old))
         (streams (S.left source.new) (S.ended source.new) (K.held sink.new))
         (Rose (S.faults source.old) (S.faults source.new))
-        (Rose (K.faults sink.old) (K.faults sink.new)) }
+        (Rose (K.faults sink.old) (K.faults sink.new))
+        (Rose (D.faults store.a) (D.faults result.1.a)
+        ⊎ Rose (D.faults store.b) (D.faults result.1.b)) }
 {
     let mut pipe = Pipe {
-        core,
+        store,
         input: Input::new(alloc),
         at: 0,
     };
@@ -207,9 +219,9 @@ pub fn run_pipe<S: Source, K: Sink>(
         }
     };
     let Pipe {
-        core,
+        store,
         input: _,
         at: _,
     } = pipe;
-    (end, core)
+    (end, store)
 }

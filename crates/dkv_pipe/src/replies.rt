@@ -1,90 +1,135 @@
-// The frames of replies.
-ghost use Rattle.std.specs.Prelude.{◌≡◌, ◌++◌, IfOk};
-ghost use Rattle.dkv_base.specs.declared.types.Answer.TheVariants.{Leased, NoLease, Nothing};
+// The replies, each as the frame that tells it.
+ghost use Rattle.std.specs.Prelude.{◌≡◌, ◌≤◌, [], length};
+ghost use Rattle.dkv_base.specs.declared.types.Answer.TheVariants.{Leased, NoLease, Nothing, NotU64};
 ghost use Rattle.dkv_base.specs.Spelling.{id_bytes};
-ghost use Rattle.dkv_pipe.specs.Grants.{made_answer};
 ghost use Rattle.dkv_pipe.specs.ReplyFrames.{answer_bytes, limit_bytes, malformed_bytes, reply_bytes};
+ghost use Rattle.dkv_pipe.specs.Told.{is_write, made_bytes, IsSureTake, IsUnstopped, Tells, TellsTake};
+ghost use Rattle.dkv_pipe.specs.declared.reply_status.ReplyStatus.TheVariants as status;
+ghost use Rattle.dkv_pipe.specs.declared.sizes.TheConstants.{MAX_FRONT_BYTES};
 
+use crate::reply::Reply;
 use crate::reply_status::ReplyStatus;
 use crate::sizes::ID_BYTES;
-use dkv_base::{Bytes, Call, Limit, Message, NoMemory};
-use dkv_msgs::written_body;
+use dkv_base::{Bytes, Call, Limit, Message, MsgId, NoMemory};
+use dkv_core::Taken;
+use dkv_msgs::{fails_reply, written_body};
+use dkv_store::{Done, Refusal};
 use std::alloc::Global;
 
-/// A whole reply frame: the length of what follows in four bytes, the status and the body.
-pub(crate) fn reply_frame(
-    alloc: Global,
-    status: ReplyStatus,
-    body: &[u8],
-) -> Result<Bytes, NoMemory>
-    ensures { IfOk result (λ frame. frame ≡ reply_bytes status body.now) }
+/// Whether the call is a write.
+pub(crate) fn is_write(call: &Call) -> bool
+    ensures { result ≡ is_write call.now }
 {
-    let [a, b, c, d, ..] = (body.len() as u64 + 1).to_le_bytes();
-    let head = [a, b, c, d, status.code()];
-    let mut frame = Vec::with_capacity(alloc, head.len() + body.len())?;
-    frame.extend_from_slice(&head)?;
-    frame.extend_from_slice(body)?;
-    Ok(Bytes::of(frame))
+    matches!(call, Call::Write(_))
 }
 
-/// The reply to a body that is malformed at this place, counted in bytes from its start.
-pub(crate) fn malformed(alloc: Global, at: u64) -> Result<Bytes, NoMemory>
-    ensures { IfOk result (λ frame. frame ≡ malformed_bytes at) }
+// A reply whose body is short. Takes no memory.
+fn short(alloc: Global, status: ReplyStatus, body: &[u8]) -> Reply
+    requires { length body.now ≤ MAX_FRONT_BYTES }
+    ensures { result ≡ reply_bytes status body.now }
 {
-    reply_frame(alloc, ReplyStatus::Malformed, &at.to_le_bytes())
+    Reply::of(status, body, Bytes::of(Vec::new(alloc)))
 }
 
-/// The reply to a request that passes this limit.
-pub(crate) fn limited(alloc: Global, passed: Limit) -> Result<Bytes, NoMemory>
-    ensures { IfOk result (λ frame. frame ≡ limit_bytes passed) }
+/// The reply that it was done, with this answer. Takes no memory.
+pub(crate) fn done(body: Bytes) -> Reply
+    ensures { result ≡ reply_bytes status.Done body }
 {
-    reply_frame(alloc, ReplyStatus::Limit, &[passed.code()])
+    Reply::of(ReplyStatus::Done, &[], body)
 }
 
-/// The reply to a call that was made as commit `n`: that of a write, or the number in eight bytes.
-pub(crate) fn made(alloc: Global, call: &Call, n: u64) -> Result<Bytes, NoMemory>
-    ensures { IfOk result (λ frame. frame ≡ answer_bytes (made_answer call.now n)) }
+/// The reply to a body that is malformed at this place, counted in bytes from its start. Takes no
+/// memory.
+pub(crate) fn malformed(alloc: Global, at: u64) -> Reply
+    ensures { result ≡ malformed_bytes at }
 {
-    match call {
-        Call::Write(_) => reply_frame(alloc, ReplyStatus::Done, &written_body(n)),
-        Call::Ack(_) => reply_frame(alloc, ReplyStatus::Done, &n.to_le_bytes()),
-        Call::Fail(_) => reply_frame(alloc, ReplyStatus::Done, &n.to_le_bytes()),
+    short(alloc, ReplyStatus::Malformed, &at.to_le_bytes())
+}
+
+/// The reply to a request that passes this limit. Takes no memory.
+pub(crate) fn limited(alloc: Global, passed: Limit) -> Reply
+    ensures { result ≡ limit_bytes passed }
+{
+    short(alloc, ReplyStatus::Limit, &[passed.code()])
+}
+
+/// The reply to the settlement of a message that isn't out. Takes no memory.
+pub(crate) fn no_lease(alloc: Global) -> Reply
+    ensures { result ≡ answer_bytes NoLease }
+{
+    short(alloc, ReplyStatus::NoLease, &[])
+}
+
+// The reply to a write that was made as commit `n`, or to a settlement. Takes no memory.
+fn made(alloc: Global, writes: bool, n: u64) -> Reply
+    ensures { result ≡ made_bytes writes n }
+{
+    if writes {
+        short(alloc, ReplyStatus::Done, &written_body(n))
+    } else {
+        short(alloc, ReplyStatus::Done, &n.to_le_bytes())
     }
 }
 
-// The commit of a message's id in eight bytes, its index in four, and its payload.
-fn message_body(alloc: Global, message: &Message) -> Result<Bytes, NoMemory>
-    ensures { IfOk result (λ body. body ≡ id_bytes message.now.id ++ message.now.payload) }
+/// The reply that tells what a commit of a write, or else of a settlement, came to. Takes memory
+/// for the places of checks that fail, and for nothing else.
+pub(crate) fn tell(
+    alloc: Global,
+    writes: bool,
+    came: Result<Done, Refusal>,
+) -> Result<Reply, NoMemory>
+    requires { IsUnstopped came }
+    ensures { Tells writes came result }
 {
-    let mut body = Vec::with_capacity(alloc, ID_BYTES)?;
-    body.extend_from_slice(&message.id.commit.to_le_bytes())?;
-    body.extend_from_slice(&message.id.index.to_le_bytes())?;
-    body.extend_from_slice(message.payload.as_slice())?;
-    Ok(Bytes::of(body))
+    match came {
+        Ok(Done::Committed { n }) => Ok(made(alloc, writes, n)),
+        Ok(Done::Fails(places)) => Ok(done(fails_reply(alloc, places)?)),
+        Ok(Done::NotU64 { index }) => {
+            Ok(short(alloc, ReplyStatus::NotU64, &index.to_le_bytes()))
+        }
+        Ok(Done::Limit(passed)) => Ok(limited(alloc, passed)),
+        Err(Refusal::DiskFault) => Ok(short(alloc, ReplyStatus::DiskFault, &[])),
+        Err(Refusal::Stopped { .. }) => unreachable!(),
+        Err(Refusal::NoMemory) => Err(NoMemory),
+    }
 }
 
-/// The reply to a take that gives this message.
-pub(crate) fn leased(alloc: Global, message: &Message) -> Result<Bytes, NoMemory>
-    ensures { IfOk result (λ frame. frame ≡ answer_bytes (Leased message.now)) }
+// The commit of a message's id in eight bytes, and its index in four.
+fn id_bytes(id: MsgId) -> [u8; ID_BYTES]
+    ensures { result ≡ id_bytes id }
 {
-    let body = message_body(alloc, message)?;
-    reply_frame(alloc, ReplyStatus::Done, body.as_slice())
+    let [a, b, c, d, e, f, g, h] = id.commit.to_le_bytes();
+    let [i, j, k, l] = id.index.to_le_bytes();
+    [a, b, c, d, e, f, g, h, i, j, k, l]
 }
 
-/// The reply to a take that finds nothing due: when something will be, or eight bytes FF where
-/// nothing waits.
-pub(crate) fn nothing(alloc: Global, next: Option<u64>) -> Result<Bytes, NoMemory>
-    ensures { IfOk result (λ frame. frame ≡ answer_bytes (Nothing next)) }
+// The reply to a take that gives this message. Takes no memory.
+fn leased(message: Message) -> Reply
+    ensures { result ≡ answer_bytes (Leased message) }
+{
+    Reply::of(ReplyStatus::Done, &id_bytes(message.id), message.payload)
+}
+
+// The reply to a take that finds nothing due: when something will be, or eight bytes FF where
+// nothing waits. Takes no memory.
+fn nothing(alloc: Global, next: Option<u64>) -> Reply
+    ensures { result ≡ answer_bytes (Nothing next) }
 {
     match next {
-        Some(moment) => reply_frame(alloc, ReplyStatus::Nothing, &moment.to_le_bytes()),
-        None => reply_frame(alloc, ReplyStatus::Nothing, &[0xff; 8]),
+        Some(moment) => short(alloc, ReplyStatus::Nothing, &moment.to_le_bytes()),
+        None => short(alloc, ReplyStatus::Nothing, &[0xff; 8]),
     }
 }
 
-/// The reply to the settlement of a message that isn't out.
-pub(crate) fn no_lease(alloc: Global) -> Result<Bytes, NoMemory>
-    ensures { IfOk result (λ frame. frame ≡ answer_bytes NoLease) }
+/// The reply that tells what a take came to. Takes no memory.
+pub(crate) fn tell_take(alloc: Global, came: Result<Taken, Refusal>) -> Result<Reply, NoMemory>
+    requires { IsSureTake came }
+    ensures { TellsTake came result }
 {
-    reply_frame(alloc, ReplyStatus::NoLease, &[])
+    match came {
+        Ok(Taken::Leased(message)) => Ok(leased(message)),
+        Ok(Taken::Nothing { next }) => Ok(nothing(alloc, next)),
+        Err(Refusal::NoMemory) => Err(NoMemory),
+        Err(Refusal::DiskFault | Refusal::Stopped { .. }) => unreachable!(),
+    }
 }

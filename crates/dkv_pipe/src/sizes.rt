@@ -20,6 +20,12 @@ pub const BODY_PLACE: usize = LENGTH_BYTES + HEAD_BYTES;
 /// A message's id, which is the body of a settlement: the commit in eight bytes, the index in four.
 pub const ID_BYTES: usize = 12;
 
+/// A reply's body begins here, behind the length and the status.
+pub const STATUS_END: usize = LENGTH_BYTES + 1;
+
+/// The longest start of a reply's body that takes no memory of its own.
+pub const MAX_FRONT_BYTES: usize = 16;
+
 /// The greatest length that a frame may begin with: the head and the longest body.
 pub const MAX_LENGTH: usize = HEAD_BYTES + MAX_REQUEST_BYTES;
 

@@ -1,0 +1,174 @@
+-- What a commit and a take came to is granted.
+use Rattle.std.proofs.Common.{◌≡◌, refl, sym, ap, subst, ◌∙◌, ℕ, ◌+◌, ◌≤◌, Bool, true, false, cond, List, [], ◌∷◌, length, Option, Some, None, Result, Ok, Err, inl, inr, arith}
+use Rattle.std.specs.Prelude.{MatchResult, IfOk, OnErr, unwrap_or, option_map}
+use Rattle.dkv_base.specs.declared.run.NoMemory.{NoMemory}
+use Rattle.dkv_base.specs.declared.types.Answer.{Answer}
+use Rattle.dkv_base.specs.declared.types.Answer.TheVariants as answer
+use Rattle.dkv_base.specs.declared.types.Ask.TheVariants as ask
+use Rattle.dkv_base.specs.declared.types.Call.{Call}
+use Rattle.dkv_base.specs.declared.types.Call.TheVariants as call
+use Rattle.dkv_base.specs.declared.types.Commit.{Commit}
+use Rattle.dkv_base.specs.declared.types.Message.{Message}
+use Rattle.dkv_base.specs.Limits.{first_some}
+use Rattle.dkv_base.specs.Messages.{next}
+use Rattle.dkv_base.specs.State.{State}
+use Rattle.dkv_base.specs.Replies.{said, stopped, full}
+use Rattle.dkv_base.specs.Steps.{Situation, effective, take_reply, lease_reply, next_moment}
+use Rattle.dkv_base.specs.Trails.{first_stop, commits, weight}
+use Rattle.dkv_core.specs.Decisions.{commit_of}
+use Rattle.dkv_core.specs.declared.takes.Taken.{Taken}
+use Rattle.dkv_core.specs.declared.takes.Taken.TheVariants as taken
+use Rattle.dkv_io.specs.Causes.{Rose}
+use Rattle.dkv_store.specs.declared.answers.Done.{Done}
+use Rattle.dkv_store.specs.declared.answers.Done.TheVariants as done
+use Rattle.dkv_store.specs.declared.answers.Refusal.{Refusal}
+use Rattle.dkv_store.specs.declared.answers.Refusal.TheVariants as refusal
+use Rattle.dkv_store.specs.Stores.{Contents, IsDone, IsRefused, IsTake, SameDisks, effective_at}
+use Rattle.dkv_store.specs.Situations as situations
+use Rattle.dkv_store.specs.Situations.{StandsFor, AnswersCall, AnswersTake, ask_of, answer_of}
+use Rattle.dkv_store.specs.Terms.{Leads, left_in_doubt}
+use Rattle.dkv_pipe.specs.declared.reply_status.ReplyStatus.TheVariants as status
+use Rattle.dkv_pipe.specs.Wishes.{asks}
+use Rattle.dkv_pipe.specs.ReplyFrames.{reply_bytes, bytes_of_reply, answer_bytes}
+use Rattle.dkv_pipe.specs.Courses.{situation_of}
+use Rattle.dkv_pipe.specs.Doubts.{asked_commit}
+use Rattle.dkv_pipe.specs.Told.{is_write, done_told, Tells, TellsTake, IsUnstopped, IsSureTake}
+use Rattle.dkv_pipe.specs.Grants.{Grants, IsRefusedFor}
+use Rattle.dkv_pipe.proofs.Grants.{answered_granted}
+
+-- the reply to what a commit came to
+told_answer : (a : Call) (d : Done) → done_told (is_write a) d ≡ answer_bytes (answer_of a d)
+told_answer (call.Write w) (done.Committed n) = refl
+told_answer (call.Ack id) (done.Committed n) = refl
+told_answer (call.Fail id) (done.Committed n) = refl
+told_answer a (done.Fails places) = refl
+told_answer a (done.NotU64 index) = refl
+told_answer a (done.Limit passed) = refl
+
+-- the commit that the call asks for
+asked_is : (a : Call) (who t k : ℕ) → asked_commit (ask_of a) who t k ≡ (k, commit_of who t a) ∷ []
+asked_is (call.Write w) who t k = refl
+asked_is (call.Ack id) who t k = refl
+asked_is (call.Fail id) who t k = refl
+
+-- at most one commit more
+number_done : {D : Type 0} (old new : Contents D) (who t : ℕ) (a : Call) (came : Result Done Refusal) → MatchResult came (λ d. IsDone old who t a d new) (λ e. IsRefused old who t a e new)
+    → new.core.state.number ≤ old.core.state.number + 1
+number_done old new who t a (Ok (done.Committed n)) is = omega (arith, ap (λ (s : State). s.number) is.state)
+number_done old new who t a (Ok (done.Fails places)) is = omega (arith, ap (λ (s : State). s.number) is.1.state)
+number_done old new who t a (Ok (done.NotU64 index)) is = omega (arith, ap (λ (s : State). s.number) is.1.state)
+number_done old new who t a (Ok (done.Limit passed)) is = omega (arith, ap (λ (s : State). s.number) is.1.state)
+number_done old new who t a (Err refusal.DiskFault) is = omega (arith, ap (λ (s : State). s.number) is.1.state)
+number_done old new who t a (Err (refusal.Stopped place)) is = omega (arith, ap (λ (s : State). s.number) is.1.state)
+number_done old new who t a (Err refusal.NoMemory) (inl is) = omega (arith, ap (λ (s : State). s.number) is.state)
+number_done old new who t a (Err refusal.NoMemory) (inr is) = omega (arith, ap (λ (s : State). s.number) is.state)
+
+-- where nothing stopped the term, a commit isn't stopped
+pub commit_unstopped : {D : Type 0} (old new : Contents D) (who t : ℕ) (a : Call) (came : Result Done Refusal) → first_stop old.trail ≡ None
+    → MatchResult came (λ d. IsDone old who t a d new) (λ e. IsRefused old who t a e new) → IsUnstopped came
+commit_unstopped old new who t (call.Write w) (Ok d) none is place same = absurd (cc same)
+commit_unstopped old new who t (call.Ack id) (Ok d) none is place same = absurd (cc same)
+commit_unstopped old new who t (call.Fail id) (Ok d) none is place same = absurd (cc same)
+commit_unstopped old new who t (call.Write w) (Err (refusal.Stopped at)) none is place same = absurd (cc (none, is.0.1))
+commit_unstopped old new who t (call.Ack id) (Err (refusal.Stopped at)) none is place same = absurd is.0
+commit_unstopped old new who t (call.Fail id) (Err (refusal.Stopped at)) none is place same = absurd is.0
+commit_unstopped old new who t a (Err refusal.DiskFault) none is place same = absurd (cc same)
+commit_unstopped old new who t a (Err refusal.NoMemory) none is place same = absurd (cc same)
+
+-- and neither is a take
+no_stop : (s : Situation) (who t place : ℕ) → first_stop s.trail ≡ None → take_reply s who t ≡ stopped place → ⊥
+no_stop s who t place none is =
+    never (next s.state s.out t) (ap (λ o. unwrap_or (first_some (option_map stopped o ∷ option_map (lease_reply s who t) (next s.state s.out t) ∷ [])) (said (answer.Nothing (next_moment s)))) (sym none) ∙ is)
+  where
+    leased : (m : Message) (b : Bool) → cond b (full (weight s.trail) s.limit) (said (answer.Leased m)) ≡ stopped place → ⊥
+    leased m true e = absurd (cc e)
+    leased m false e = absurd (cc e)
+
+    never : (o : Option Message) → unwrap_or (first_some (None ∷ option_map (lease_reply s who t) o ∷ [])) (said (answer.Nothing (next_moment s))) ≡ stopped place → ⊥
+    never None e = absurd (cc e)
+    never (Some m) e = leased m _ e
+
+pub take_sure : {D : Type 0} (old new : Contents D) (who at : ℕ) (came : Result Taken Refusal) → first_stop old.trail ≡ None → AnswersTake old who at came new → IsSureTake came
+take_sure old new who at (Ok x) none is e same = absurd (cc same)
+take_sure old new who at (Err refusal.NoMemory) none is e same = cc same
+take_sure old new who at (Err refusal.DiskFault) none is e same = absurd is
+take_sure old new who at (Err (refusal.Stopped place)) none is e same =
+    let s = situation_of old in
+    absurd (no_stop s who (effective s at) place none (is s (record { state = refl; out = λ id. refl; greatest = refl; trail = refl; unlimited = refl })).0)
+
+module _ {D : Type 0} (seen : D → Option (List ℕ)) (images : D → List ℕ → Type 0) (faults moment : D → ℕ) (since : D → ℕ → List ℕ → Type 0) (old new : Contents D) (who at : ℕ) where
+  abbrev t : ℕ
+  t = effective_at old at
+
+  abbrev k : ℕ
+  k = length (commits old.trail)
+
+  -- ---- commits
+
+  module _ (a : Call) (later : faults old.a ≤ faults new.a) (other : new.b ≡ old.b) where
+    fault_granted : (out : List ℕ) → AnswersCall old who at a (Err refusal.DiskFault) new → Leads seen images moment since ((k, commit_of who t a) ∷ []) old new → Rose (faults old.a) (faults new.a)
+        → new.core.state.number ≤ old.core.state.number + 1 → out ≡ reply_bytes status.DiskFault [] → Grants seen images faults moment since old (asks (ask_of a)) who at out new
+    fault_granted out is leads rose number told = record {
+      mark = true;
+      steps = λ s stands. let here = is s stands in (ap bytes_of_reply here.0 ∙ sym told, here.1);
+      marked = told;
+      reaches = record {
+        marked = λ low_a low_b. let same = ap faults other in omega (arith, rose, low_a, same);
+        later_a = later;
+        later_b = let same = ap faults other in omega (arith, same);
+        number = number;
+      };
+      leads = subst (λ (l : List (ℕ × Commit)). Leads seen images moment since l old new) (sym (asked_is a who t k)) leads;
+    }
+
+    pub call_granted : (came : Result Done Refusal) (result : Result (List ℕ) NoMemory) → AnswersCall old who at a came new
+        → MatchResult came (λ d. IsDone old who t a d new) (λ e. IsRefused old who t a e new)
+        → Leads seen images moment since (left_in_doubt came k (commit_of who t a)) old new → (came ≡ Err refusal.DiskFault → Rose (faults old.a) (faults new.a))
+        → Tells (is_write a) came result → IfOk result (λ out. Grants seen images faults moment since old (asks (ask_of a)) who at out new)
+    call_granted (Ok d) (Ok out) is done leads cause told =
+        answered_granted seen images faults moment since old new (ask_of a) who at (said (answer_of a d)) out is (told ∙ told_answer a d) leads later (let same = ap faults other in omega (arith, same)) (number_done old new who t a (Ok d) done)
+    call_granted (Err refusal.DiskFault) (Ok out) is done leads cause told = fault_granted out is leads (cause refl) (number_done old new who t a (Err refusal.DiskFault) done) told
+    call_granted (Err (refusal.Stopped place)) (Ok out) is done leads cause told = absurd told
+    call_granted (Err refusal.NoMemory) (Ok out) is done leads cause told = absurd told
+    call_granted came (Err none) is done leads cause told = tt
+
+    pub call_refused : (came : Result Done Refusal) (result : Result (List ℕ) NoMemory)
+        → MatchResult came (λ d. IsDone old who t a d new) (λ e. IsRefused old who t a e new)
+        → Leads seen images moment since (left_in_doubt came k (commit_of who t a)) old new
+        → Tells (is_write a) came result → OnErr result (IsRefusedFor seen images moment since old at new)
+    call_refused came (Ok out) is leads told = tt
+    call_refused (Ok (done.Fails places)) (Err none) is leads told = record { raised = inr is.1; leads = leads }
+    call_refused (Err refusal.NoMemory) (Err none) is leads told = record { raised = is; leads = leads }
+    call_refused (Ok (done.Committed n)) (Err none) is leads told = absurd told
+    call_refused (Ok (done.NotU64 index)) (Err none) is leads told = absurd told
+    call_refused (Ok (done.Limit passed)) (Err none) is leads told = absurd told
+    call_refused (Err refusal.DiskFault) (Err none) is leads told = absurd told
+    call_refused (Err (refusal.Stopped place)) (Err none) is leads told = absurd told
+
+  -- ---- takes
+
+  number_taken : (x : Taken) → IsTake old who t x new → new.core.state.number ≤ old.core.state.number + 1
+  number_taken (taken.Leased m) is = omega (arith, ap (λ (s : State). s.number) is.0.2.state)
+  number_taken (taken.Nothing next) is = omega (arith, ap (λ (s : State). s.number) is.0.2.state)
+
+  module _ (same : SameDisks old new) (leads : Leads seen images moment since [] old new) where
+    given : (r : Answer) (x : Taken) → situations.Answers old who at ask.Take false (said r) new → IsTake old who t x new → Grants seen images faults moment since old (asks ask.Take) who at (answer_bytes r) new
+    given r x is took = answered_granted seen images faults moment since old new ask.Take who at (said r) (answer_bytes r) is refl leads
+        (let a = ap faults same.a in omega (arith, a)) (let b = ap faults same.b in omega (arith, b)) (number_taken x took)
+
+    pub take_granted : (came : Result Taken Refusal) (result : Result (List ℕ) NoMemory) → AnswersTake old who at came new → IfOk came (λ x. IsTake old who t x new) → TellsTake came result
+        → IfOk result (λ out. Grants seen images faults moment since old (asks ask.Take) who at out new)
+    take_granted (Ok (taken.Leased m)) result is took told =
+        subst (λ (r : Result (List ℕ) NoMemory). IfOk r (λ out. Grants seen images faults moment since old (asks ask.Take) who at out new)) (sym told) (given (answer.Leased m) (taken.Leased m) is took)
+    take_granted (Ok (taken.Nothing next)) result is took told =
+        subst (λ (r : Result (List ℕ) NoMemory). IfOk r (λ out. Grants seen images faults moment since old (asks ask.Take) who at out new)) (sym told) (given (answer.Nothing next) (taken.Nothing next) is took)
+    take_granted (Err e) (Ok out) is took told = absurd told
+    take_granted (Err e) (Err none) is took told = tt
+
+    pub take_refused : (came : Result Taken Refusal) (result : Result (List ℕ) NoMemory) → AnswersTake old who at came new → TellsTake came result → OnErr result (IsRefusedFor seen images moment since old at new)
+    take_refused (Ok (taken.Leased m)) result is told = subst (λ (r : Result (List ℕ) NoMemory). OnErr r (IsRefusedFor seen images moment since old at new)) (sym told) tt
+    take_refused (Ok (taken.Nothing next)) result is told = subst (λ (r : Result (List ℕ) NoMemory). OnErr r (IsRefusedFor seen images moment since old at new)) (sym told) tt
+    take_refused (Err e) (Ok out) is told = tt
+    take_refused (Err refusal.NoMemory) (Err none) is told = record { raised = is; leads = leads }
+    take_refused (Err refusal.DiskFault) (Err none) is told = absurd is
+    take_refused (Err (refusal.Stopped place)) (Err none) is told = absurd (cc told)
