@@ -1,5 +1,5 @@
-//! The program `denokv`: `pipe` answers frames from the standard input on the standard output, over a
-//! new database.
+//! The program `denokv`: `create` makes a database in a folder, `check` tells what stands in one, and `pipe`
+//! answers frames from the standard input on the standard output, over one of them or a new one in memory.
 #![tactic(auto)]
 
 use dkv_app::run_here;

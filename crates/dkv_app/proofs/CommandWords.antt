@@ -1,12 +1,17 @@
 -- Words that are commands.
-use Rattle.std.proofs.Common.{◌≡◌, ℕ, List, [], ◌∷◌, Err, codes, get_or, drop, ap, sym, subst, arith}
+use Rattle.std.proofs.Common.{◌≡◌, ◌∙◌, ◌≤◌, ℕ, List, [], ◌∷◌, Some, Ok, Err, codes, get_or, drop, ap, sym, subst, arith, inl, inr}
+use Rattle.std.specs.Prelude.{unwrap_or, IfOk, IsSome}
+use Rattle.std.specs.declared.option.Option.{Option}
+use Rattle.std.specs.declared.result.Result.{Result}
 use Rattle.dkv_app.specs.declared.command.Command.{Command}
 use Rattle.dkv_app.specs.declared.command.Command.TheVariants as command
 use Rattle.dkv_app.specs.declared.command.CommandError.{CommandError}
 use Rattle.dkv_app.specs.declared.command.CommandError.TheVariants.{BadWords, NoMemory}
 use Rattle.dkv_app.specs.declared.options.Options.{Options}
-use Rattle.dkv_app.specs.Commands.{ReadsAs, IsCommand}
-use Rattle.dkv_app.specs.Options.{AreOptions}
+use Rattle.dkv_app.specs.declared.options.TheConstants.{MAX_TRAIL}
+use Rattle.dkv_app.specs.Commands.{ReadsAs, IsCommand, IsPipeOf, HasFolder, HasTrail, InNoForm, NamesFolder}
+use Rattle.dkv_app.specs.Options.{AddsOption, AreOptions}
+use Rattle.dkv_app.proofs.OptionWords.{are_one}
 
 -- words that are no options name no command behind `pipe`
 no_pipe : (options : List (List ℕ)) → ((all : Options) → AreOptions options all → ⊥) → (c : Command) → IsCommand c (codes "pipe" ∷ options) → ⊥
@@ -32,3 +37,70 @@ pub nothing : (c : Command) → IsCommand c [] → ⊥
 nothing (command.Create folder) is = cc
 nothing (command.Check folder) is = cc
 nothing (command.Pipe folder trail) is = let none = is.1 in cc
+
+-- the same options give the same folder and trail
+same_pipe : (options others : List (List ℕ)) (f g : Option (List ℕ)) (t u : ℕ) → options ≡ others → IsPipeOf options f t → IsPipeOf others g u → command.Pipe f t ≡ command.Pipe g u
+same_pipe options others f g t u same one other =
+    let again : AreOptions others one.0 = subst (λ (l : List (List ℕ)). AreOptions l one.0) same one.1 in
+    let given : one.0 ≡ other.0 = are_one others one.0 other.0 again other.1 in
+    let folder : f ≡ g = one.2 ∙ ap (λ (o : Options). o.folder) given ∙ sym other.2 in
+    let trail : t ≡ u = one.3 ∙ ap (λ (o : Options). unwrap_or o.trail MAX_TRAIL) given ∙ sym other.3 in
+    cc
+
+-- the second letter of the first word
+abbrev second_letter : List (List ℕ) → ℕ
+second_letter words = get_or (get_or words 0 []) 1 0
+
+-- words name one command
+pub one_command : (c d : Command) (words : List (List ℕ)) → IsCommand c words → IsCommand d words → c ≡ d
+one_command (command.Create f) (command.Create g) words c d = ap (λ (l : List (List ℕ)). command.Create (get_or l 1 [])) (sym c ∙ d)
+one_command (command.Create f) (command.Check g) words c d =
+    let other = ap second_letter (sym c ∙ d) in absurd (omega (arith, other))
+one_command (command.Create f) (command.Pipe g u) words c d =
+    let other = ap second_letter (sym c ∙ d.1) in absurd (omega (arith, other))
+one_command (command.Check f) (command.Create g) words c d =
+    let other = ap second_letter (sym c ∙ d) in absurd (omega (arith, other))
+one_command (command.Check f) (command.Check g) words c d = ap (λ (l : List (List ℕ)). command.Check (get_or l 1 [])) (sym c ∙ d)
+one_command (command.Check f) (command.Pipe g u) words c d =
+    let other = ap second_letter (sym c ∙ d.1) in absurd (omega (arith, other))
+one_command (command.Pipe f t) (command.Create g) words c d =
+    let other = ap second_letter (sym c.1 ∙ d) in absurd (omega (arith, other))
+one_command (command.Pipe f t) (command.Check g) words c d =
+    let other = ap second_letter (sym c.1 ∙ d) in absurd (omega (arith, other))
+one_command (command.Pipe f t) (command.Pipe g u) words c d =
+    same_pipe c.0 d.0 f g t u (ap (λ (l : List (List ℕ)). drop 1 l) (sym c.1 ∙ d.1)) c.2 d.2
+
+-- one option more leaves it so
+within_more : (name value : List ℕ) (others all : Options) → AddsOption name value others all → unwrap_or others.trail MAX_TRAIL ≤ MAX_TRAIL → unwrap_or all.trail MAX_TRAIL ≤ MAX_TRAIL
+within_more name value others all (inl folder) within =
+    let same : all.trail ≡ others.trail = ap (λ (o : Options). o.trail) folder.1.1 in
+    subst (λ (o : Option ℕ). unwrap_or o MAX_TRAIL ≤ MAX_TRAIL) (sym same) within
+within_more name value others all (inr trail) within =
+    let is : all.trail ≡ Some trail.1.1 = ap (λ (o : Options). o.trail) trail.1.3 in
+    subst (λ (o : Option ℕ). unwrap_or o MAX_TRAIL ≤ MAX_TRAIL) (sym is) trail.1.2.most
+
+-- the weight of a trail among options is one that may be asked for
+trail_within : (options : List (List ℕ)) (all : Options) → AreOptions options all → unwrap_or all.trail MAX_TRAIL ≤ MAX_TRAIL
+trail_within [] all is = subst (λ (o : Options). unwrap_or o.trail MAX_TRAIL ≤ MAX_TRAIL) (sym is) (omega arith)
+trail_within (name ∷ []) all is = absurd is
+trail_within (name ∷ value ∷ rest) all is = within_more name value is.0 all is.2 (trail_within rest is.0 is.1)
+
+-- a command's trail is one that may be asked for
+pub has_trail : (c : Command) (words : List (List ℕ)) → IsCommand c words → HasTrail c
+has_trail (command.Create f) words is = tt
+has_trail (command.Check f) words is = tt
+has_trail (command.Pipe f t) words is =
+    subst (λ (n : ℕ). n ≤ MAX_TRAIL) (sym is.2.3) (trail_within is.0 is.2.0 is.2.1)
+
+-- the command of words that name a folder has one
+pub named_folder : (words : List (List ℕ)) (c : Command) → IsCommand c words → NamesFolder words → HasFolder c
+named_folder words c is names = subst (λ (d : Command). HasFolder d) (one_command names.0 c words names.1 is) names.2
+
+-- bad words are in no form
+pub bad_words : (words : List (List ℕ)) (why : CommandError) → why ≡ BadWords → ReadsAs {T = Command} (Err why) (λ c. IsCommand c words) → InNoForm words
+bad_words words why is reads = subst (λ (e : CommandError). ReadsAs {T = Command} (Err e) (λ c. IsCommand c words)) is reads
+
+-- files that are there for the one are there for the other
+pub there_for : {T E : Type 0} (r : Result (Option T) E) (P Q : Type 0) → (Q → P) → IfOk r (λ files. P → IsSome files) → IfOk r (λ files. Q → IsSome files)
+there_for (Ok files) P Q so there = λ q. there (so q)
+there_for (Err e) P Q so there = tt

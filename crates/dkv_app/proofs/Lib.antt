@@ -1,6 +1,9 @@
 mod Answered
+mod Checked
 mod CommandWords
+mod Commanded
+mod Idle
 mod OptionWords
+mod OverFiles
 mod PieceLists
-mod Single
-mod Told
+mod Piped

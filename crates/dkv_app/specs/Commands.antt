@@ -1,7 +1,8 @@
 -- The forms of words, and what reading them answers.
 --     IsCommand command words      the words of a command
+--     InNoForm words, NamesFolder words      words that name no command; words that name one with a folder
 --     ReadsAs answer P      what was read has P, or the words are bad and nothing has P
-use Rattle.std.specs.Prelude.{◌≡◌, ℕ, ⊤, List, [], ◌∷◌, codes, Ok, Err, Some, None, unwrap_or}
+use Rattle.std.specs.Prelude.{◌≡◌, ◌≤◌, ℕ, ⊤, List, [], ◌∷◌, codes, Ok, Err, Some, None, unwrap_or}
 use Rattle.std.specs.declared.option.Option.{Option}
 use Rattle.std.specs.declared.result.Result.{Result}
 use Rattle.dkv_app.specs.declared.command.Command.{Command}
@@ -24,6 +25,27 @@ IsCommand (command.Create folder) words = words ≡ codes "create" ∷ folder �
 IsCommand (command.Check folder) words = words ≡ codes "check" ∷ folder ∷ []
 IsCommand (command.Pipe folder trail) words =
     (options : List (List ℕ)) × (words ≡ codes "pipe" ∷ options) × IsPipeOf options folder trail
+
+-- no command's words
+abbrev pub InNoForm : List (List ℕ) → Type 0
+InNoForm words = (command : Command) → ¬ (IsCommand command words)
+
+-- a folder is named
+abbrev pub HasFolder : Command → Type 0
+HasFolder (command.Create folder) = ⊤
+HasFolder (command.Check folder) = ⊤
+HasFolder (command.Pipe (Some folder) trail) = ⊤
+HasFolder (command.Pipe None trail) = ⊥
+
+-- the weight of a trail is one that may be asked for
+abbrev pub HasTrail : Command → Type 0
+HasTrail (command.Create folder) = ⊤
+HasTrail (command.Check folder) = ⊤
+HasTrail (command.Pipe folder trail) = trail ≤ MAX_TRAIL
+
+-- the words of a command that names a folder
+abbrev pub NamesFolder : List (List ℕ) → Type 0
+NamesFolder words = (command : Command) × IsCommand command words × HasFolder command
 
 -- P holds of what was read, or the words are bad and P holds of nothing, or memory was wanted
 abbrev pub ReadsAs : {T : Type 0} → Result T CommandError → (T → Type 0) → Type 0

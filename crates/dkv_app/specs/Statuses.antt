@@ -1,5 +1,6 @@
 -- What a status says: of which end, by which number, in which line.
---     Tells status P refused      P holds of the end that the status tells, or the words were refused
+--     told end, unheard why      the status of a run over frames, and of words that can't be had
+--     Prints status held old new text      a command that ended so printed this text
 --     Exits exit old new rose P      the exit status and the error line are those of a status of which P holds
 use Rattle.std.specs.Prelude.{◌≡◌, ℕ, ◌⊎◌, List, [], ◌∷◌, ◌++◌, codes, decimal}
 use Rattle.std.specs.declared.option.Option.{Option}
@@ -21,21 +22,11 @@ told (end.BadFrame at) = status.BadFrame at
 told (end.NotBuilt at) = status.NotBuilt at
 told end.NoMemory = status.NoMemory
 
--- P holds of the end that the status tells, or the words were refused; a run without files has no other status
-abbrev pub Tells : Status → (PipeEnd → Type 0) → Type 0 → Type 0
-Tells status.Ok P refused = P end.Ok
-Tells status.BadWords P refused = refused
-Tells status.ReadFault P refused = P end.ReadFault
-Tells status.WriteFault P refused = P end.WriteFault
-Tells status.DiskFault P refused = ⊥
-Tells status.NoDatabase P refused = ⊥
-Tells (status.Damaged file at) P refused = ⊥
-Tells (status.BadFrame at) P refused = P (end.BadFrame at)
-Tells status.Exists P refused = ⊥
-Tells (status.Worn n) P refused = ⊥
-Tells status.RandomFault P refused = ⊥
-Tells status.NoMemory P refused = P end.NoMemory
-Tells (status.NotBuilt at) P refused = P (end.NotBuilt at)
+-- the text is printed at Ok, a front of it at WriteFault, and nothing else at any other
+abbrev pub Prints : {K : Type 0} → Status → (K → Option (List ℕ)) → K → K → List ℕ → Type 0
+Prints status.Ok held old new text = Appends (held old) (held new) text
+Prints status.WriteFault held old new text = AppendsFront (held old) (held new) text
+Prints _ held old new text = new ≡ old
 
 -- the status of words that can't be had: one that isn't text is in no form
 abbrev pub unheard : NoWords → Status

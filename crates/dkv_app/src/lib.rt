@@ -1,32 +1,34 @@
-//! The top calls: what the program does with the words that it is given, over any source, sink and error
-//! output.
+//! The top calls: what the program does with the words that it is given, over any source, sink, error
+//! output, files and random bytes.
 //!
 //! The layer above may rely on this: the exit status and the error line are those of how the command
-//! ended, the output is what `dkv_pipe` says of the frames that were read, and words that name no
-//! command run nothing. `run_here` is the program over the system's own streams, which tell nothing.
+//! ended; `create` and `check` print what their clauses say of the files; the output of `pipe` is what
+//! `dkv_pipe` says of the frames that were read; stopped at any moment, the files stand as those clauses
+//! say; and words that name no command run nothing. `run_here` is the program over the system's own
+//! streams, files and random bytes, which tell nothing.
 #![tactic(auto)]
 
+mod checking;
 mod command;
+mod creating;
 mod here;
 mod ids;
+mod opening;
 mod options;
 mod pieces;
+mod piping;
 mod program;
 mod report;
 mod status;
 mod tells;
 mod top;
-mod words;
 
 pub use command::{Command, CommandError, read_command};
 pub use here::run_here;
 pub use ids::new_id;
 pub use options::{MAX_TRAIL, MIN_TRAIL, Options};
 pub use program::{NoWords, run_program};
-pub use status::{Ended, Pair, Status};
+pub use report::report;
+pub use status::{Ended, Status};
 pub use tells::{tell_created, tell_database};
 pub use top::run_once;
-pub use words::{Words, WordsError, read_words};
-
-#[cfg(test)]
-mod tests;

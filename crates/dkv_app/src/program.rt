@@ -1,13 +1,14 @@
-// The program over any streams: the words that it was given, its exit status and its error line.
-ghost use Rattle.std.specs.Prelude.{◌≡◌, map, string_bytes, IfOk, IfErr, OnErr};
+// The program over any streams and files: the words that it was given, its exit status and error line.
+ghost use Rattle.std.specs.Prelude.{◌≡◌, map, string_bytes, IfOk, IfErr, OnErr, IsSome};
 ghost use Rattle.dkv_io.specs.Causes.{Rose};
-ghost use Rattle.dkv_pipe.specs.Ends.{HasEndCause, RanNew, streams};
-ghost use Rattle.dkv_app.specs.Forms.{InNoForm, IsPipe};
-ghost use Rattle.dkv_app.specs.Statuses.{Exits, Tells, unheard};
+ghost use Rattle.dkv_app.specs.Commands.{NamesFolder};
+ghost use Rattle.dkv_app.specs.Runs.{Idles, Runs};
+ghost use Rattle.dkv_app.specs.Statuses.{Exits, unheard};
 
 use crate::report::report;
-use crate::status::{Pair, Status};
+use crate::status::Status;
 use crate::top::run_once;
+use dkv_files::Pair;
 use dkv_io::{Disk, Random, Sink, Source};
 use std::alloc::Global;
 use thiserror::Error;
@@ -23,9 +24,10 @@ pub enum NoWords {
     NoMemory,
 }
 
-/// Runs what the words name, and gives the exit status. Replies go to the sink, and the line of the
-/// status to the error output. Words that can't be had run nothing. It waits where the source does.
-pub fn run_program<S: Source, K: Sink, E: Sink, D: Disk + Drop, R: Random>(
+/// Runs what the words name, and gives the exit status and the files back. Replies and lines go to the
+/// sink, and the line of the status to the error output. Words that can't be had run nothing. It waits
+/// where the source does.
+pub fn run_program<S: Source, K: Sink, E: Sink, D: Disk, R: Random>(
     alloc: Global,
     words: Result<Vec<String>, NoWords>,
     source: &mut S,
@@ -33,35 +35,31 @@ pub fn run_program<S: Source, K: Sink, E: Sink, D: Disk + Drop, R: Random>(
     errors: &mut E,
     files: Option<Pair<D>>,
     random: &mut R,
-) -> u8
-    // The exit status and the error line are those of how the command ended, or of bad words.
-    ensures ended { IfOk words (λ texts. Exits result
+) -> (u8, Option<Pair<D>>)
+    requires { IfOk words (λ texts. NamesFolder (map string_bytes texts.items) → IsSome files) }
+    // The exit status and the error line are those of how the words ended that were run.
+    ensures ended { IfOk words (λ texts. Exits result.0
         (E.held errors.old) (E.held errors.new) (Rose (E.faults errors.old) (E.faults errors.new))
-        (λ status. Tells status
-        (λ end. IsPipe (map string_bytes texts.items)
-        × RanNew end
-        (streams (S.left source.old) (S.ended source.old) (K.held sink.old))
-        (streams (S.left source.new) (S.ended source.new) (K.held sink.new))
-        × HasEndCause end (S.ended source.new)
-        (Rose (S.faults source.old) (S.faults source.new))
-        (Rose (K.faults sink.old) (K.faults sink.new)))
-        (InNoForm (map string_bytes texts.items)
-        × (source.new ≡ source.old) × (sink.new ≡ sink.old)))) }
+        (λ status. Runs S.left S.ended S.faults K.held K.faults R.stream R.faults
+        D.seen D.may_leave D.faults D.moment D.left_since
+        (map string_bytes texts.items) status
+        source.old source.new sink.old sink.new random.old random.new files result.1)) }
     // Or they are those of why the words can't be had.
-    ensures unheard { IfErr words (λ why. Exits result
+    ensures unheard { IfErr words (λ why. Exits result.0
         (E.held errors.old) (E.held errors.new) (Rose (E.faults errors.old) (E.faults errors.new))
         (λ status. status ≡ unheard why)) }
-    ensures idle { OnErr words ((source.new ≡ source.old) × (sink.new ≡ sink.old)) }
+    ensures idle { OnErr words (Idles
+        source.old source.new sink.old sink.new random.old random.new files result.1) }
 {
     match words {
         Ok(words) => {
             let ended = run_once(alloc, &words, source, sink, errors, files, random);
-            ended.status.number()
+            (ended.status.number(), ended.files)
         }
         Err(why) => {
             let status = Status::unheard(why);
             report(status, errors);
-            status.number()
+            (status.number(), files)
         }
     }
 }

@@ -2,6 +2,7 @@
 ghost use Rattle.std.specs.Prelude.{◌≡◌};
 
 use crate::program::NoWords;
+use dkv_files::Pair;
 use dkv_pipe::PipeEnd;
 
 /// How a run of the program ended.
@@ -82,13 +83,6 @@ impl Status {
             Status::NotBuilt { .. } => 15,
         }
     }
-}
-
-/// Two files.
-#[derive(Drop)]
-pub struct Pair<D> {
-    pub a: D,
-    pub b: D,
 }
 
 /// A status, and the files that were handed in.

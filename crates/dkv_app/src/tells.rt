@@ -22,8 +22,8 @@ pub fn tell_created<K: Sink>(sink: &mut K, id: [u8; 16]) -> Result<(), Failed>
     write_pieces(sink, &[b"created ", id.as_bytes(), b"\n"])
 }
 
-/// Writes the lines of a database that was checked: its id, its last commit's number, and how many entries are visible and
-/// how many messages pending. Takes no memory.
+/// Writes the lines of a database that was checked: its id, its last commit's number, and how many
+/// entries are visible and how many messages pending. Takes no memory.
 pub fn tell_database<K: Sink>(
     sink: &mut K,
     id: [u8; 16],

@@ -1,81 +1,89 @@
-// The program, over any source, sink and error output.
-ghost use Rattle.std.specs.Prelude.{◌≡◌, map, string_bytes};
+// The program, over any source, sink, error output, files and random bytes.
+ghost use Rattle.std.specs.Prelude.{◌≡◌, map, string_bytes, IsSome};
 ghost use Rattle.dkv_io.specs.Causes.{Rose};
-ghost use Rattle.dkv_pipe.specs.Ends.{HasEndCause, RanNew, streams};
-ghost use Rattle.dkv_pipe.specs.Replied.{started};
-ghost use Rattle.dkv_pipe.specs.Whole.{Completes};
-ghost use Rattle.dkv_app.specs.Forms.{InNoForm, IsPipe};
-ghost use Rattle.dkv_app.specs.Statuses.{Lines, Tells};
+ghost use Rattle.dkv_app.specs.Commands.{HasFolder, HasTrail, NamesFolder};
+ghost use Rattle.dkv_app.specs.Runs.{Does, Runs};
+ghost use Rattle.dkv_app.specs.Statuses.{Lines};
 
+use crate::checking::run_check;
+use crate::command::{Command, CommandError, read_command};
+use crate::creating::run_create;
+use crate::piping::{run_new, run_over};
 use crate::report::report;
-use crate::status::{Ended, Pair, Status};
-use crate::words::{Words, WordsError, read_words};
-use dkv_base::NoMemory;
-use dkv_core::Core;
+use crate::status::{Ended, Status};
+use dkv_files::Pair;
 use dkv_io::{Disk, Random, Sink, Source};
-use dkv_pipe::{PipeEnd, run_pipe};
 use std::alloc::Global;
 
-// Answers the frames of the source over a new database.
-fn run_new<S: Source, K: Sink>(alloc: Global, source: &mut S, sink: &mut K) -> PipeEnd
-    ensures run { RanNew result
-        (streams (S.left source.old) (S.ended source.old) (K.held sink.old))
-        (streams (S.left source.new) (S.ended source.new) (K.held sink.new)) }
-    ensures cause { HasEndCause result (S.ended source.new)
-        (Rose (S.faults source.old) (S.faults source.new))
-        (Rose (K.faults sink.old) (K.faults sink.new)) }
-    ensures complete { Completes result started
-        (streams (S.left source.old) (S.ended source.old) (K.held sink.old))
-        (streams (S.left source.new) (S.ended source.new) (K.held sink.new))
-        (Rose (S.faults source.old) (S.faults source.new))
-        (Rose (K.faults sink.old) (K.faults sink.new)) }
+// Runs a command, and says nothing of how it ended.
+fn run_command<S: Source, K: Sink, D: Disk, R: Random>(
+    alloc: Global,
+    command: Command,
+    source: &mut S,
+    sink: &mut K,
+    files: Option<Pair<D>>,
+    random: &mut R,
+) -> (Status, Option<Pair<D>>)
+    requires folder { HasFolder command → IsSome files }
+    requires trail { HasTrail command }
+    ensures { Does S.left S.ended S.faults K.held K.faults R.stream R.faults
+        D.seen D.may_leave D.faults D.moment D.left_since command result.0
+        source.old source.new sink.old sink.new random.old random.new files result.1 }
 {
-    match Core::empty(alloc) {
-        Ok(core) => {
-            let (end, _core) = run_pipe(alloc, source, sink, core);
-            end
+    match (command, files) {
+        (Command::Create { folder: _ }, Some(mut pair)) => {
+            let status = run_create(alloc, sink, &mut pair, random);
+            (status, Some(pair))
         }
-        Err(NoMemory) => PipeEnd::NoMemory,
+        (Command::Check { folder: _ }, Some(pair)) => {
+            let (status, pair) = run_check(alloc, sink, pair);
+            (status, Some(pair))
+        }
+        (
+            Command::Pipe {
+                folder: Some(_),
+                trail,
+            },
+            Some(pair),
+        ) => {
+            let (status, pair) = run_over(alloc, source, sink, pair, trail);
+            (status, Some(pair))
+        }
+        (
+            Command::Pipe {
+                folder: None,
+                trail,
+            },
+            files,
+        ) => (run_new(alloc, source, sink, trail), files),
+        (_, files) => (Status::NoDatabase, files),
     }
 }
 
-// Runs the command, and says nothing of how it ended.
-fn run_words<S: Source, K: Sink>(
+// Runs what the words name, and says nothing of how it ended.
+fn run_words<S: Source, K: Sink, D: Disk, R: Random>(
     alloc: Global,
     words: &[String],
     source: &mut S,
     sink: &mut K,
-) -> Status
-    ensures words { Tells result
-        (λ _. IsPipe (map string_bytes words.now))
-        (InNoForm (map string_bytes words.now)) }
-    ensures run { Tells result
-        (λ end. RanNew end
-        (streams (S.left source.old) (S.ended source.old) (K.held sink.old))
-        (streams (S.left source.new) (S.ended source.new) (K.held sink.new)))
-        ((source.new ≡ source.old) × (sink.new ≡ sink.old)) }
-    ensures cause { Tells result
-        (λ end. HasEndCause end (S.ended source.new)
-        (Rose (S.faults source.old) (S.faults source.new))
-        (Rose (K.faults sink.old) (K.faults sink.new)))
-        (InNoForm (map string_bytes words.now)) }
-    ensures complete { Tells result
-        (λ end. Completes end started
-        (streams (S.left source.old) (S.ended source.old) (K.held sink.old))
-        (streams (S.left source.new) (S.ended source.new) (K.held sink.new))
-        (Rose (S.faults source.old) (S.faults source.new))
-        (Rose (K.faults sink.old) (K.faults sink.new)))
-        (InNoForm (map string_bytes words.now)) }
+    files: Option<Pair<D>>,
+    random: &mut R,
+) -> (Status, Option<Pair<D>>)
+    requires { NamesFolder (map string_bytes words.now) → IsSome files }
+    ensures { Runs S.left S.ended S.faults K.held K.faults R.stream R.faults
+        D.seen D.may_leave D.faults D.moment D.left_since (map string_bytes words.now) result.0
+        source.old source.new sink.old sink.new random.old random.new files result.1 }
 {
-    match read_words(words) {
-        Ok(Words::Pipe) => Status::of(run_new(alloc, source, sink)),
-        Err(WordsError::BadWords) => Status::BadWords,
+    match read_command(alloc, words) {
+        Ok(command) => run_command(alloc, command, source, sink, files, random),
+        Err(CommandError::BadWords) => (Status::BadWords, files),
+        Err(CommandError::NoMemory) => (Status::NoMemory, files),
     }
 }
 
-/// Runs the command that the words name, and writes the line of its status to the error output.
-/// `pipe` runs on a new database and needs no files, which are handed back as they came. It waits
-/// where the source does.
+/// Runs the command that the words name, and writes the line of its status to the error output. The
+/// files are those of the folder that the words name, and are handed back. It waits where the source
+/// does.
 pub fn run_once<S: Source, K: Sink, E: Sink, D: Disk, R: Random>(
     alloc: Global,
     words: &[String],
@@ -85,39 +93,18 @@ pub fn run_once<S: Source, K: Sink, E: Sink, D: Disk, R: Random>(
     files: Option<Pair<D>>,
     random: &mut R,
 ) -> Ended<D>
-    // The words are `pipe`, or the status is BadWords.
-    ensures words { Tells result.status
-        (λ _. IsPipe (map string_bytes words.now))
-        (InNoForm (map string_bytes words.now)) }
-    // What was read, answered and written, as far as source and sink tell it; nothing at BadWords.
-    ensures run { Tells result.status
-        (λ end. RanNew end
-        (streams (S.left source.old) (S.ended source.old) (K.held sink.old))
-        (streams (S.left source.new) (S.ended source.new) (K.held sink.new)))
-        ((source.new ≡ source.old) × (sink.new ≡ sink.old)) }
-    // Told or not: why it ended so.
-    ensures cause { Tells result.status
-        (λ end. HasEndCause end (S.ended source.new)
-        (Rose (S.faults source.old) (S.faults source.new))
-        (Rose (K.faults sink.old) (K.faults sink.new)))
-        (InNoForm (map string_bytes words.now)) }
-    // `pipe` over whole frames that are built answers them all, or memory was wanted, where no count of
-    // faults rose.
-    ensures complete { Tells result.status
-        (λ end. Completes end started
-        (streams (S.left source.old) (S.ended source.old) (K.held sink.old))
-        (streams (S.left source.new) (S.ended source.new) (K.held sink.new))
-        (Rose (S.faults source.old) (S.faults source.new))
-        (Rose (K.faults sink.old) (K.faults sink.new)))
-        (InNoForm (map string_bytes words.now)) }
+    requires { NamesFolder (map string_bytes words.now) → IsSome files }
+    // What a command does is said of each: what it reads, prints, answers and draws, what becomes of
+    // the files at any moment, and which counts rose. Other words do nothing.
+    ensures runs { Runs S.left S.ended S.faults K.held K.faults R.stream R.faults
+        D.seen D.may_leave D.faults D.moment D.left_since
+        (map string_bytes words.now) result.status
+        source.old source.new sink.old sink.new random.old random.new files result.files }
     // The status's line is written, or a front of it where that failed; nothing at Ok.
     ensures line { Lines result.status (E.held errors.old) (E.held errors.new)
         (Rose (E.faults errors.old) (E.faults errors.new)) }
-    ensures files { result.files ≡ files }
-    ensures random { random.new ≡ random.old }
 {
-    let _ = random;
-    let status = run_words(alloc, words, source, sink);
+    let (status, files) = run_words(alloc, words, source, sink, files, random);
     report(status, errors);
     Ended { status, files }
 }

@@ -42,7 +42,7 @@ entry_shape false true true d = refl
 entry_shape false true false true = refl
 entry_shape false true false false = refl
 
-entry_is : (n now : ℕ) (e : Entry) → is_good_entry (record { profile = Narrow; n = n; now = now }) e ≡ (is_stored n e && is_visible now e)
+pub entry_is : (n now : ℕ) (e : Entry) → is_good_entry (record { profile = Narrow; n = n; now = now }) e ≡ (is_stored n e && is_visible now e)
 entry_is n now e =
     let known = is_encoding e.encoding in
     let short = int_eq e.encoding LE64 && not (length e.bytes == 8) in
@@ -109,7 +109,7 @@ enqueue_is m =
     message_shape (nat_lt 65536 (length m.payload)) (nat_lt 10 (length m.backoff)) (nat_lt 10 (length m.undelivered)) (first_some (map interval_limit m.backoff)) (first_some (map undelivered_limit m.undelivered))
     ∙ (λ i. le_is (length m.payload) 65536 i && (le_is (length m.backoff) 10 i && (intervals_are m.backoff i && (le_is (length m.undelivered) 10 i && keys_are m.undelivered i))))
 
-message_good : (n now : ℕ) (m : Message) → is_waiting n m ≡ true → is_good_message (record { profile = Narrow; n = n; now = now }) m ≡ true
+pub message_good : (n now : ℕ) (m : Message) → is_waiting n m ≡ true → is_good_message (record { profile = Narrow; n = n; now = now }) m ≡ true
 message_good n now m is =
     let outer = and_parts (is_payload m && is_number n m.id.commit) _ is in
     let inner = and_parts (is_payload m) (is_number n m.id.commit) outer.0 in
@@ -121,7 +121,7 @@ message_good n now m is =
     let parts : enqueue_parts m ≡ true = and_from _ _ counts.0 (and_from _ _ lengths.1 (and_from _ _ schedule.1 (and_from _ _ counts.1 keys.1))) in
     and_from _ _ (and_from _ _ (and_from _ _ (enqueue_is m ∙ parts) inner.1) (some_is (length m.backoff) ∙ lengths.0)) outer.1
 
-message_waits : (n now : ℕ) (m : Message) → is_good_message (record { profile = Narrow; n = n; now = now }) m ≡ true → is_waiting n m ≡ true
+pub message_waits : (n now : ℕ) (m : Message) → is_good_message (record { profile = Narrow; n = n; now = now }) m ≡ true → is_waiting n m ≡ true
 message_waits n now m is =
     let last = and_parts _ (nat_le m.fails (length m.backoff)) is in
     let some = and_parts _ (nat_lt 0 (length m.backoff)) last.0 in

@@ -10,5 +10,4 @@ mod One
 pub mod Complete
 mod Grants
 mod Calls
-pub mod Begun
 mod Asked

@@ -35,6 +35,10 @@ pub fn open_store<D: Disk>(
         (λ e. IsUnopened fa fb e.0)) }
     ensures begins { IfOk result (λ s. (s.a_first ≡ s.a) × (s.b_first ≡ s.b)
         × (s.core.greatest ≡ s.base.moment)) }
+    ensures told { IfOk result (λ s. (D.seen s.a ≡ D.seen pair.a)
+        × (D.seen s.b ≡ D.seen pair.b)) }
+    ensures later { IfOk result (λ s. (D.faults pair.a ≤ D.faults s.a)
+        × (D.faults pair.b ≤ D.faults s.b)) }
     ensures moves_ok { IfOk result (λ s. WritesNothing D.may_leave D.moment D.left_since
         pair.a pair.b s.a s.b) }
     ensures moves_err { IfErr result (λ e. WritesNothing D.may_leave D.moment D.left_since
@@ -76,6 +80,8 @@ fn recover<D: Disk>(
         × (D.seen pair.new.b ≡ D.seen pair.old.b) }
     ensures moves { WritesNothing D.may_leave D.moment D.left_since
         pair.old.a pair.old.b pair.new.a pair.new.b }
+    ensures later { (D.faults pair.old.a ≤ D.faults pair.new.a)
+        × (D.faults pair.old.b ≤ D.faults pair.new.b) }
     ensures cause { result ≡ Err opening.DiskFault
         → Rose (D.faults pair.old.a) (D.faults pair.new.a)
         ⊎ Rose (D.faults pair.old.b) (D.faults pair.new.b) }

@@ -1,0 +1,11 @@
+//! Runs of the whole program over memory.
+mod ends;
+mod expiry;
+mod files;
+mod limits;
+mod queue;
+mod reads;
+mod running;
+mod told;
+mod words;
+mod writes;

@@ -1,0 +1,88 @@
+// Words and the commands that they name.
+use dkv_app::{Command, CommandError, read_command};
+use std::alloc::Global;
+use std::process::Abort;
+use std::test::*;
+
+// Words, parted by one space each.
+fn read(alloc: Global, line: &str) -> Result<Result<Command, CommandError>, Fail> {
+    let mut words = Vec::new(alloc);
+    for word in line.split(' ') {
+        words.push(String::from_str(alloc, word)?)?;
+    }
+    Ok(read_command(alloc, &words))
+}
+
+// A command as a letter, its folder, and its trail's weight.
+fn seen(command: &Result<Command, CommandError>) -> (u8, &[u8], u64) {
+    match command {
+        Ok(Command::Create { folder }) => (b'm', folder.as_slice(), 0),
+        Ok(Command::Check { folder }) => (b'c', folder.as_slice(), 0),
+        Ok(
+            Command::Pipe {
+                folder: Some(folder),
+                trail,
+            },
+        ) => (b'f', folder.as_slice(), *trail),
+        Ok(
+            Command::Pipe {
+                folder: None,
+                trail,
+            },
+        ) => (b'p', b"", *trail),
+        Err(CommandError::BadWords) => (b'b', b"", 0),
+        Err(CommandError::NoMemory) => (b'n', b"", 0),
+    }
+}
+
+const LINES: [(&str, u8, &[u8], u64); 31] = [
+    ("create d", b'm', b"d", 0),
+    ("create --trail", b'm', b"--trail", 0),
+    ("check d", b'c', b"d", 0),
+    ("pipe", b'p', b"", 268_435_456),
+    ("pipe --folder d", b'f', b"d", 268_435_456),
+    ("pipe --trail 1000", b'p', b"", 1000),
+    ("pipe --trail 268435456", b'p', b"", 268_435_456),
+    ("pipe --trail 00000000000000001000", b'p', b"", 1000),
+    ("pipe --folder d --trail 5000", b'f', b"d", 5000),
+    ("pipe --trail 5000 --folder d", b'f', b"d", 5000),
+    ("pipe --folder --trail", b'f', b"--trail", 268_435_456),
+    ("pipe --trail 999", b'b', b"", 0),
+    ("pipe --trail 268435457", b'b', b"", 0),
+    ("pipe --trail 18446744073709552616", b'b', b"", 0),
+    ("pipe --trail 000000000000000001000", b'b', b"", 0),
+    ("pipe --trail +1000", b'b', b"", 0),
+    ("pipe --trail 1e4", b'b', b"", 0),
+    ("pipe --trail", b'b', b"", 0),
+    ("pipe --trail=1000", b'b', b"", 0),
+    ("pipe --trail 1000 --trail 1000", b'b', b"", 0),
+    ("pipe --folder d --folder d", b'b', b"", 0),
+    ("pipe --folder", b'b', b"", 0),
+    ("pipe --summary", b'b', b"", 0),
+    ("pipe -- --folder d", b'b', b"", 0),
+    ("pipe d", b'b', b"", 0),
+    ("create", b'b', b"", 0),
+    ("create d e", b'b', b"", 0),
+    ("check", b'b', b"", 0),
+    ("serve d", b'b', b"", 0),
+    ("Pipe", b'b', b"", 0),
+    ("", b'b', b"", 0),
+];
+
+fn names(rt: &impl Abort, alloc: Global, case: (&str, u8, &[u8], u64)) -> Result<(), Fail> {
+    let (line, kind, folder, trail) = case;
+    let command = read(alloc, line)?;
+    let (read_kind, read_folder, read_trail) = seen(&command);
+    assert_eq!(rt; (read_kind, read_trail), (kind, trail), "{line}");
+    assert_eq!(rt; read_folder, folder, "{line}");
+    Ok(())
+}
+
+#[test]
+fn words_name_a_command_or_are_bad(rt: HostRuntime) -> Result<(), Fail> {
+    let alloc = rt.alloc();
+    for case in LINES {
+        names(&rt, alloc, case)?;
+    }
+    Ok(())
+}
