@@ -35,13 +35,14 @@ fn disk(alloc: Global, bytes: &[u8], fails: &[u64]) -> Result<MemoryDisk, Fail>
 }
 
 // Runs words over an input, a file a with these bytes and an empty file b, with so many random bytes of
-// zero. The calls of these numbers fail on file a.
+// zero. The calls of these numbers fail on file a, and of the others on file b.
 fn run_with(
     alloc: Global,
     line: &str,
     input: &[u8],
     file: &[u8],
     fails: &[u64],
+    b_fails: &[u64],
     zeros: usize,
 ) -> Result<Left, Fail>
     requires { length file.now < 2 ^ 63 }
@@ -52,7 +53,7 @@ fn run_with(
     let mut random = ListRandom::new(vec![in alloc; 0; zeros]?, Vec::new(alloc));
     let pair = Pair {
         a: disk(alloc, file, fails)?,
-        b: disk(alloc, b"", &[])?,
+        b: disk(alloc, b"", b_fails)?,
     };
     let (exit, files) = run_program(
         alloc,
@@ -77,11 +78,11 @@ fn run_with(
     })
 }
 
-// The same with as many as are drawn.
+// The same with as many as are drawn, and no fault of file b.
 fn run(alloc: Global, line: &str, input: &[u8], file: &[u8], fails: &[u64]) -> Result<Left, Fail>
     requires { length file.now < 2 ^ 63 }
 {
-    run_with(alloc, line, input, file, fails, 48)
+    run_with(alloc, line, input, file, fails, &[], 48)
 }
 
 const CREATED: &[u8] = b"created 00000000-0000-4000-8000-000000000000\n";
@@ -276,11 +277,51 @@ fn a_write_behind_a_fault_goes_as_the_next_number(rt: HostRuntime) -> Result<(),
 #[test]
 fn a_fault_of_the_random_bytes_makes_nothing(rt: HostRuntime) -> Result<(), Fail> {
     let alloc = rt.alloc();
-    let left = run_with(alloc, "create d", b"", b"", &[], 47)?;
+    let left = run_with(alloc, "create d", b"", b"", &[], &[], 47)?;
     assert_eq!(rt;
         (left.exit, left.line.as_slice()),
         (11, b"random fault\n".as_slice())
     );
     assert_eq!(rt; left.a.len(), 0);
+    Ok(())
+}
+
+// The first call of file a behind an opening that fails is the write of a gate, and then one of the mend.
+#[test]
+fn a_fault_in_a_mend_is_told_and_the_next_write_goes(rt: HostRuntime) -> Result<(), Fail> {
+    let alloc = rt.alloc();
+    let file = set_file(alloc)?;
+    let set = frame(alloc, 5, WRITE, SET)?;
+    let input = joined(alloc, &[&set, &set, &set])?;
+    let replies = joined(alloc, &[DISK_FAULT, DISK_FAULT, SECOND])?;
+    for call in 3..5 {
+        let fails = [OPENING + 2, OPENING + call];
+        let left = run(alloc, "pipe --folder d", &input, &file, &fails)?;
+        assert_eq!(rt;
+            (left.exit, left.out.as_slice()),
+            (0, replies.as_slice()),
+            "{call}"
+        );
+        let again = run(alloc, "check d", b"", &left.a, &[])?;
+        assert_eq!(rt; again.out.as_slice(), TWO, "{call}");
+    }
+    Ok(())
+}
+
+// Words, and how many calls of file b they make.
+const B_CALLS: [(&str, u64); 3] = [("create d", 1), ("check d", 2), ("pipe --folder d", 2)];
+
+#[test]
+fn a_fault_of_the_other_file_is_told_and_nothing_is_written(rt: HostRuntime) -> Result<(), Fail> {
+    let alloc = rt.alloc();
+    let file = set_file(alloc)?;
+    for (line, calls) in B_CALLS {
+        for call in 0..calls {
+            let left = run_with(alloc, line, b"", &file, &[], &[call], 48)?;
+            assert_eq!(rt; left.exit, 5, "{line} {call}");
+            assert_eq!(rt; left.line.as_slice(), b"disk fault\n".as_slice());
+            assert_eq!(rt; left.a.as_slice(), file.as_slice(), "{line} {call}");
+        }
+    }
     Ok(())
 }
