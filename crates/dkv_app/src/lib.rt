@@ -28,7 +28,6 @@ pub use here::run_here;
 pub use ids::new_id;
 pub use options::{MAX_TRAIL, MIN_TRAIL, Options};
 pub use program::{NoWords, run_program};
-pub use report::report;
 pub use status::{Ended, Status};
 pub use tells::{tell_created, tell_database};
 pub use top::run_once;

@@ -1,36 +1,7 @@
-// Lines of statuses, ids and what is told of a database.
-use dkv_app::{Status, new_id, report, tell_created, tell_database};
+// Ids, and what is told of a database.
+use dkv_app::{new_id, tell_created, tell_database};
 use dkv_io::MemorySink;
 use std::test::*;
-
-#[test]
-fn each_status_has_its_line_and_number(rt: HostRuntime) -> Result<(), Fail> {
-    let alloc = rt.alloc();
-    let statuses: [(Status, u8, &[u8]); 7] = [
-        (Status::DiskFault, 5, b"disk fault\n"),
-        (Status::NoDatabase, 6, b"no database\n"),
-        (
-            Status::Damaged { file: 1, at: 96 },
-            7,
-            b"damaged: file 1 at 96\n",
-        ),
-        (Status::BadFrame { at: 33 }, 8, b"bad frame at 33\n"),
-        (Status::Exists, 9, b"database exists\n"),
-        (
-            Status::Worn { n: 1 << 62 },
-            10,
-            b"worn at 4611686018427387904\n",
-        ),
-        (Status::RandomFault, 11, b"random fault\n"),
-    ];
-    for (status, number, line) in statuses {
-        let mut errors = MemorySink::new(alloc, Vec::new(alloc));
-        report(status, &mut errors);
-        assert_eq!(rt; status.number(), number);
-        assert_eq!(rt; errors.bytes(), line);
-    }
-    Ok(())
-}
 
 #[test]
 fn an_id_is_a_random_uuid_of_version_4(rt: HostRuntime) -> Result<(), Fail> {
