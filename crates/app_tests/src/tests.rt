@@ -1,4 +1,5 @@
 //! Runs of the whole program over memory.
+mod ample;
 mod ends;
 mod expiry;
 mod files;

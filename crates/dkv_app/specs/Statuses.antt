@@ -1,10 +1,13 @@
 -- What a status says: of which end, by which number, in which line.
 --     told end, unheard why      the status of a run over frames, and of words that can't be had
+--     why_of kind      why words can't be had whose reading ended with an error of this kind
 --     Prints status held old new text      a command that ended so printed this text
 --     Exits exit old new rose P      the exit status and the error line are those of a status of which P holds
 use Rattle.std.specs.Prelude.{◌≡◌, ℕ, ◌⊎◌, List, [], ◌∷◌, ◌++◌, codes, decimal}
 use Rattle.std.specs.declared.option.Option.{Option}
 use Rattle.std.specs.Io.KnownBytes.{Appends}
+use Rattle.std_io.specs.declared.io.kind.ErrorKind.{ErrorKind}
+use Rattle.std_io.specs.declared.io.kind.ErrorKind.TheVariants.{OutOfMemory}
 use Rattle.dkv_io.specs.Streams.{AppendsFront}
 use Rattle.dkv_pipe.specs.declared.pipe.PipeEnd.{PipeEnd}
 use Rattle.dkv_pipe.specs.declared.pipe.PipeEnd.TheVariants as end
@@ -27,6 +30,11 @@ abbrev pub Prints : {K : Type 0} → Status → (K → Option (List ℕ)) → K 
 Prints status.Ok held old new text = Appends (held old) (held new) text
 Prints status.WriteFault held old new text = AppendsFront (held old) (held new) text
 Prints _ held old new text = new ≡ old
+
+-- words for which the system has no memory; else one of them isn't text
+abbrev pub why_of : ErrorKind → NoWords
+why_of OutOfMemory = why.NoMemory
+why_of _ = why.NotText
 
 -- the status of words that can't be had: one that isn't text is in no form
 abbrev pub unheard : NoWords → Status

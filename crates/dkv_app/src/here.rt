@@ -23,10 +23,7 @@ fn given_words(rt: &HostRuntime, alloc: Global) -> io::Result<Vec<String>> {
 fn words_of(rt: &HostRuntime, alloc: Global) -> Result<Vec<String>, NoWords> {
     match given_words(rt, alloc) {
         Ok(words) => Ok(words),
-        Err(error) => match error.kind() {
-            io::ErrorKind::OutOfMemory => Err(NoWords::NoMemory),
-            _ => Err(NoWords::NotText),
-        },
+        Err(error) => Err(NoWords::of(error.kind())),
     }
 }
 

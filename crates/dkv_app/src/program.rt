@@ -3,7 +3,7 @@ ghost use Rattle.std.specs.Prelude.{◌≡◌, map, string_bytes, IfOk, IfErr, O
 ghost use Rattle.dkv_io.specs.Causes.{Rose};
 ghost use Rattle.dkv_app.specs.Commands.{NamesFolder};
 ghost use Rattle.dkv_app.specs.Runs.{Idles, Runs};
-ghost use Rattle.dkv_app.specs.Statuses.{Exits, unheard};
+ghost use Rattle.dkv_app.specs.Statuses.{Exits, unheard, why_of};
 
 use crate::report::report;
 use crate::status::Status;
@@ -11,6 +11,7 @@ use crate::top::run_once;
 use dkv_files::Pair;
 use dkv_io::{Disk, Random, Sink, Source};
 use std::alloc::Global;
+use std::io::ErrorKind;
 use thiserror::Error;
 
 /// Why the words behind the program's name can't be had.
@@ -22,6 +23,18 @@ pub enum NoWords {
     /// The allocator had no room for them.
     #[error("no memory")]
     NoMemory,
+}
+
+impl NoWords {
+    // Why they can't be had where reading them ended with an error of this kind.
+    pub(crate) fn of(kind: ErrorKind) -> NoWords
+        ensures { result ≡ why_of kind }
+    {
+        match kind {
+            ErrorKind::OutOfMemory => NoWords::NoMemory,
+            _ => NoWords::NotText,
+        }
+    }
 }
 
 /// Runs what the words name, and gives the exit status and the files back. Replies and lines go to the

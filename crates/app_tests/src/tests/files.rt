@@ -11,11 +11,11 @@ use std::test::*;
 
 // What a run leaves: its exit status, the output, the error output and the two files.
 #[derive(Drop)]
-struct Left {
-    exit: u8,
-    out: Vec<u8>,
+pub(super) struct Left {
+    pub(super) exit: u8,
+    pub(super) out: Vec<u8>,
     line: Vec<u8>,
-    a: Vec<u8>,
+    pub(super) a: Vec<u8>,
     b: Vec<u8>,
 }
 
@@ -79,7 +79,7 @@ fn run_with(
 }
 
 // The same with as many as are drawn, and no fault of file b.
-fn run(alloc: Global, line: &str, input: &[u8], file: &[u8], fails: &[u64]) -> Result<Left, Fail>
+pub(super) fn run(alloc: Global, line: &str, input: &[u8], file: &[u8], fails: &[u64]) -> Result<Left, Fail>
     requires { length file.now < 2 ^ 63 }
 {
     run_with(alloc, line, input, file, fails, &[], 48)
