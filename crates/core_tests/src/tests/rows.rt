@@ -29,12 +29,18 @@ fn list_goes_as(
     (at, asked, wanted): Row<'_>,
 ) -> Result<(), Fail> {
     let parts = parts_of(alloc, asked)?;
-    let given = list.answer(alloc, at, &parts)?;
+    let given = list.answer(alloc, (2, at), &parts)?;
     assert_eq!(rt; given.as_str(), wanted, "the plain list, {asked} at {at}");
     Ok(())
 }
 
-fn all_go(rt: &impl Abort, alloc: Global, core: &mut Core, rows: &[Row<'_>]) -> Result<(), Fail> {
+/// The steps of the core go so.
+pub fn all_go(
+    rt: &impl Abort,
+    alloc: Global,
+    core: &mut Core,
+    rows: &[Row<'_>],
+) -> Result<(), Fail> {
     for row in rows {
         goes_as(rt, alloc, core, *row)?;
     }
