@@ -1,10 +1,10 @@
 // The calls of a core beside `run`. With ample memory each gives what it was asked for.
 use super::asking::{range, watched, write_of};
 use super::parts::make_part;
-use super::rows::{Row, all_go, go, go_on};
+use super::rows::{Row, go, go_on};
 use super::telling::say_entries;
 use dkv_atomic::{read_limits, watch_limits};
-use dkv_base::{Call, MsgId, NoMemory, Run};
+use dkv_base::{Ask, Call, MsgId, NoMemory, Run, Step};
 use dkv_core::{Core, Decided, NextDue, Taken};
 use dkv_hub::Watcher;
 use std::alloc::Global;
@@ -273,13 +273,20 @@ fn a_watcher_polls_until_it_leaves(rt: HostRuntime) -> Result<(), Fail> {
 fn a_watch_goes_on_beside_a_run(rt: HostRuntime) -> Result<(), Fail> {
     let alloc = rt.alloc();
     let mut core = go(&rt, alloc, &WRITTEN)?;
+    let mut steps = Vec::new(alloc);
+    steps.push(Step {
+        who: 1,
+        at: 5,
+        ask: Ask::Write(write_of(alloc, "set a 8")?),
+    })?;
+    assert!(rt; core.number() < 1000 && steps.len() == 1);
     let mut watcher = watch(&rt, alloc, &mut core)?;
     let first = polls(&rt, alloc, &mut core, &mut watcher, &[(1, 5), (0, 5)]);
-    let went = all_go(&rt, alloc, &mut core, &[(5, "set a 8", "written 2")]);
+    let went = core.run(alloc, &steps);
     let then = polls(&rt, alloc, &mut core, &mut watcher, &[(1, 5), (0, 5)]);
     core.unwatch(watcher);
     first?;
-    went?;
+    assert_eq!(rt; went?.len(), 1);
     then?;
     Ok(())
 }

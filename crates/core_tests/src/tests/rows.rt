@@ -34,13 +34,7 @@ fn list_goes_as(
     Ok(())
 }
 
-/// The steps of the core go so.
-pub fn all_go(
-    rt: &impl Abort,
-    alloc: Global,
-    core: &mut Core,
-    rows: &[Row<'_>],
-) -> Result<(), Fail> {
+fn all_go(rt: &impl Abort, alloc: Global, core: &mut Core, rows: &[Row<'_>]) -> Result<(), Fail> {
     for row in rows {
         goes_as(rt, alloc, core, *row)?;
     }
