@@ -8,4 +8,5 @@ mod parts;
 mod plain_list;
 mod rows;
 mod telling;
+mod watches;
 mod writes;

@@ -24,8 +24,10 @@ use Rattle.dkv_base.proofs.SoundIds.{order_made_from}
 use Rattle.dkv_base.proofs.AfterNothing.{FailsFit}
 use Rattle.dkv_atomic.specs.declared.decision.Effects.{Effects}
 use Rattle.dkv_atomic.specs.Decisions.{IsEffects, effected}
+use Rattle.dkv_hub.specs.Frames.{are_committed}
 use Rattle.dkv_core.specs.Cores.{Database, Change, IsEffective, applied, is_made_by, ends}
 use Rattle.dkv_core.specs.Decisions.{Goes}
+use Rattle.dkv_core.proofs.Committed.{committed-applied}
 use Rattle.dkv_core.proofs.OneCommit.{pending-wrote, entries-one}
 
 -- ---- a write
@@ -67,9 +69,9 @@ module _ (c : Database) (who at n : ℕ) (w : AtomicWrite) (e : Effects) (fit : 
       (and_from (is_none (write_limit w)) _ (ap (λ (o : Option Limit). is_none o) free) (ap (λ (places : List ℕ). is_empty places) does.holds))
       (ap (λ (k : ℕ). is_ok (mutated_all w k at (seen c.state at))) (sym next) ∙ ap (λ (r : Result (List Entry) ℕ). is_ok r) does.entries))
 
-  pub write_goes : c.state.moment ≤ c.greatest → IsEffective c at → write_limit w ≡ None → length e.puts ≤ c.room.entries → count_by ends e.puts ≤ c.room.endings → length (made_from n 0 w.enqueues) ≤ c.room.messages
+  pub write_goes : c.state.moment ≤ c.greatest → are_committed c.state.entries ≡ true → IsEffective c at → write_limit w ≡ None → length e.puts ≤ c.room.entries → count_by ends e.puts ≤ c.room.endings → length (made_from n 0 w.enqueues) ≤ c.room.messages
       → Goes c who at (Write w) (change_of n at w e)
-  write_goes late effective free entries endings messages = record {
+  write_goes late kept effective free entries endings messages = record {
     legal = write_legal (omega (arith, late, effective.late)) effective.within free;
     makes = write_makes;
     settles = refl;
@@ -83,5 +85,6 @@ module _ (c : Database) (who at n : ℕ) (w : AtomicWrite) (e : Effects) (fit : 
       made = made_by_write n 0 w.enqueues (within w free).enqueues;
       order = order_made_from n 0 w.enqueues;
       settles = refl;
+      committed = committed-applied (change_of n at w e) c.state (Wrote who at w) fit kept write_makes;
     };
   }

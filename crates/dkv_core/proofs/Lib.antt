@@ -1,8 +1,12 @@
 pub mod OneCommit
+mod Committed
 pub mod Going
 pub mod Settles
 pub mod Replying
 pub mod Running
+mod SeatRows
+mod Seated
+mod Watching
 pub mod Indexed
 mod PutInOrder
 mod Seen

@@ -1,6 +1,6 @@
 -- What the calls of a core answer is what the definitions answer in each situation of the core.
-use Rattle.std.proofs.Common.{◌≡◌, ◌≢◌, ℕ, ◌+◌, ◌-◌, ◌^◌, min, Bool, true, false, cond, not, ◌||◌, filter, List, [], ◌∷◌, ◌++◌, Option, Some, None, Result, Ok, Err, refl, sym, ap, subst, ◌∙◌, arith}
-use Rattle.std.specs.Prelude.{max, nat_lt, nat_le, is_ok, is_none, ◌&&◌, option_map, unwrap_or, sum_by}
+use Rattle.std.proofs.Common.{◌≡◌, ◌≢◌, ℕ, ◌+◌, ◌-◌, ◌^◌, min, Bool, true, false, cond, not, ◌||◌, filter, List, [], ◌∷◌, ◌++◌, Option, Some, None, Result, Ok, Err, refl, sym, ap, ◌∙◌, arith}
+use Rattle.std.specs.Prelude.{nat_lt, nat_le, is_ok, is_none, ◌&&◌, option_map, unwrap_or, sum_by}
 use Rattle.std.specs.Bool.{then_some}
 use Rattle.std.specs.Option.{option_map_or}
 use Rattle.std.specs.Result.{result_err}
@@ -20,17 +20,15 @@ use Rattle.dkv_base.specs.declared.codes.Limit.{Limit}
 use Rattle.dkv_base.specs.declared.types.Message.{Message}
 use Rattle.dkv_base.specs.declared.types.MsgId.{MsgId}
 use Rattle.dkv_base.specs.declared.types.ReadRange.{ReadRange}
-use Rattle.dkv_base.specs.declared.types.Step.{Step}
 use Rattle.dkv_base.specs.Limits.{write_limit, read_limit, first_some}
 use Rattle.dkv_base.specs.State.{State, is_empty, same_id, seen}
-use Rattle.dkv_base.specs.Moments.{capped_moment}
 use Rattle.dkv_base.specs.declared.moments.TheConstants.{MAX_MOMENT}
 use Rattle.dkv_base.specs.Writes.{failing, mutated_all}
 use Rattle.dkv_base.specs.After.{after, is_legal_in}
 use Rattle.dkv_base.specs.Trails.{weight, item_weight, is_stop}
 use Rattle.dkv_base.specs.Messages.{is_out, waiting, next, first_due}
 use Rattle.dkv_base.specs.Replies.{Reply, said, stopped, full, limited, fails_reply, read_reply}
-use Rattle.dkv_base.specs.Steps.{Situation, effective, reply_to, answered, raised, settlement, lease_reply, take_reply}
+use Rattle.dkv_base.specs.Steps.{Situation, reply_to, raised, settlement, lease_reply, take_reply}
 use Rattle.dkv_base.proofs.Lists.{or_false}
 use Rattle.dkv_base.proofs.NamedMessages.{same_id-true}
 use Rattle.dkv_core.specs.Cores.{Database, Change, SameContent, applied}
@@ -38,10 +36,10 @@ use Rattle.dkv_core.specs.Settling.{without_id, out_after}
 use Rattle.dkv_core.specs.Decisions.{Goes, commit_of, settled_by, settling}
 use Rattle.dkv_core.specs.Takes.{IsFirst, IsNone, IsOutToo, IsRaised}
 use Rattle.dkv_core.specs.declared.prepared.Settled.{Settled}
-use Rattle.dkv_core.specs.Runs.{StandsFor, IsAnswered, IsStep, no_limit}
+use Rattle.dkv_core.specs.Runs.{StandsFor, IsAnswered, no_limit}
 
 -- a situation of the core stays one
-stays : (s : Situation) (c d : Database) → SameContent c d → StandsFor s c → StandsFor s d
+pub stays : (s : Situation) (c d : Database) → SameContent c d → StandsFor s c → StandsFor s d
 stays s c d same stands = record {
   state = stands.state ∙ sym same.state;
   out = λ id. stands.out id ∙ ap (λ (ids : List MsgId). is_out id ids) (sym same.out);
@@ -57,7 +55,7 @@ pub record SameAt (c : Database) (t : ℕ) (d : Database) : Type 0 where
   pub greatest : d.greatest ≡ t
 
 -- and one of the core that was raised, where it is raised
-rises : (s : Situation) (c d : Database) (t : ℕ) → SameAt c t d → StandsFor s c → StandsFor (raised t s) d
+pub rises : (s : Situation) (c d : Database) (t : ℕ) → SameAt c t d → StandsFor s c → StandsFor (raised t s) d
 rises s c d t same stands = record {
   state = stands.state ∙ sym same.state;
   out = λ id. stands.out id ∙ ap (λ (ids : List MsgId). is_out id ids) (sym same.out);
@@ -289,11 +287,3 @@ take_nothing c d who t moment is out raised = λ s stands. (
       ∙ ap (λ o. said (answer.Nothing o)) (sym is.told),
   rises s c d t (record { state = raised.state; out = out; greatest = raised.greatest }) stands,
 )
-
--- a step is its ask at its effective moment
-pub as_step : (c d : Database) (p : Step) (a : Ask) (t : ℕ) (r : Answer) → t ≡ max (capped_moment p.at) c.greatest → p.ask ≡ a → IsAnswered c p.who t a r d → IsStep c p r d
-as_step c d p a t r at asks is = λ s stands.
-    let when : t ≡ effective s p.at = at ∙ ap (λ (g : ℕ). max (capped_moment p.at) g) (sym stands.greatest) in
-    let here = subst (λ (u : ℕ). (reply_to s p.who u p.ask ≡ said r) × StandsFor (answered p.who u p.ask (said r) s) d) when
-    (subst (λ (b : Ask). (reply_to s p.who t b ≡ said r) × StandsFor (answered p.who t b (said r) s) d) (sym asks) (is s stands)) in
-    (here.0, subst (λ (q : Reply). StandsFor (answered p.who (effective s p.at) p.ask q s) d) (sym here.0) here.1)

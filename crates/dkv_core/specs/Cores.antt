@@ -1,6 +1,6 @@
 -- What contracts see of a core and of a prepared commit.
 --     Database, Change      what they see of the one and of the other
---     SameContent c d      whether two cores have one state, one greatest moment and the same messages out
+--     SameContent c d      whether two cores have one state, one greatest moment and the same messages out, whoever watches
 --     IsEffective c at      whether a call may have this moment
 --     applied p s      the state after the prepared commit
 --     IsReady c p      whether the prepared commit may be made now, without memory
@@ -14,6 +14,8 @@ use Rattle.dkv_base.specs.Sound.{is_schedule}
 use Rattle.dkv_base.specs.State.{State, put, without, visible, is_in_id_order}
 use Rattle.dkv_base.specs.declared.moments.TheConstants.{MAX_MOMENT}
 use Rattle.dkv_base.specs.Messages.{is_out}
+use Rattle.dkv_hub.specs.Frames.{are_committed}
+use Rattle.dkv_hub.specs.Rows.{WatchRow}
 use Rattle.dkv_core.specs.Settling.{after_settlement}
 use Rattle.dkv_core.specs.declared.prepared.Settled.{Settled}
 
@@ -23,11 +25,12 @@ pub record SpareRoom : Type 0 where
   pub endings : ℕ
   pub messages : ℕ
 
--- the state, the messages that are out, the greatest moment so far, and the room
+-- the state, the messages that are out, the greatest moment so far, the rows of those who watch, and the room
 pub record Database : Type 0 where
   pub state : State
   pub out : List MsgId
   pub greatest : ℕ
+  pub watches : List WatchRow
   pub room : SpareRoom
 
 -- the number and the moment of a commit, the entries that it stores, the keys that it takes away, the messages that it makes, and what it settles
@@ -39,7 +42,7 @@ pub record Change : Type 0 where
   pub added : List Message
   pub settled : Option Settled
 
--- the two differ in nothing but their room
+-- the two differ in nothing but their room and who watches
 pub record SameContent (c d : Database) : Type 0 where
   pub state : d.state ≡ c.state
   pub out : d.out ≡ c.out
@@ -85,7 +88,7 @@ is_kept n m = nat_le m.id.commit n && nat_le m.fails (length m.backoff)
 abbrev pub is_made_by : ℕ → Message → Bool
 is_made_by n m = (m.id.commit == n) && is_schedule m.backoff && nat_le m.fails (length m.backoff)
 
--- it is the next commit, its moment is effective, there is room for it, its messages are its own in order, and what it settles is out
+-- it is the next commit, its moment is effective, there is room for it, its messages are its own in order, what it settles is out, and it leaves no entry of commit 0
 pub record IsReady (c : Database) (p : Change) : Type 0 where
   pub number : p.number ≡ c.state.number + 1
   pub moment : IsEffective c p.moment
@@ -95,3 +98,4 @@ pub record IsReady (c : Database) (p : Change) : Type 0 where
   pub made : IsTrue (list_all (is_made_by p.number) p.added)
   pub order : IsTrue (is_in_id_order p.added)
   pub settles : IsTrue (option_map_or (λ t. is_out t.id c.out) p.settled true)
+  pub committed : IsTrue (are_committed (applied p c.state).entries)

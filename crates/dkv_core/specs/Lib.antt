@@ -5,4 +5,5 @@ pub mod Rows
 pub mod Cores
 pub mod Decisions
 pub mod Takes
+pub mod Seats
 pub mod Runs

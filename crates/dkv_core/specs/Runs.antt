@@ -1,14 +1,13 @@
 -- A run of steps from a core.
---     asks_no_watch p      whether the step neither begins a watch nor asks for a frame of one
 --     situation_of c      the situation in which a run begins
 --     StandsFor s c      whether a situation is the core's, whatever its trail
 --     IsAnswered c who t a r d      whether at the core c the ask has the answer r at the moment t, and leads to the core d
---     IsStep c p a d      whether the step has this answer at the core c, and leads to the core d
+--     IsAnsweredBeside c seats who t a r d new      whether so it is beside these seats, and leads to the new ones
+--     IsStep c seats p a d new      whether the step has this answer at the core c and beside these seats, and leads to d and the new ones
 --     IsCutShort c steps d      whether some first steps lead to d
-use Rattle.std.specs.Prelude.{ℕ, ◌≡◌, ◌-◌, ◌^◌, Bool, true, false, List, [], take, None}
+use Rattle.std.specs.Prelude.{ℕ, ◌≡◌, ◌-◌, ◌^◌, false, List, [], take, None}
 use Rattle.dkv_base.specs.declared.types.Answer.{Answer}
 use Rattle.dkv_base.specs.declared.types.Ask.{Ask}
-use Rattle.dkv_base.specs.declared.types.Ask.TheVariants as ask
 use Rattle.dkv_base.specs.declared.types.MsgId.{MsgId}
 use Rattle.dkv_base.specs.declared.types.Step.{Step}
 use Rattle.dkv_base.specs.Trails.{first_stop}
@@ -16,19 +15,8 @@ use Rattle.dkv_base.specs.Messages.{is_out}
 use Rattle.dkv_base.specs.Replies.{said}
 use Rattle.dkv_base.specs.Steps.{Situation, reply_to, answered, step, situation_after}
 use Rattle.dkv_core.specs.Cores.{Database}
-
--- no watch, and no frame of one
-abbrev pub is_watchless : Ask → Bool
-is_watchless (ask.Read ranges) = true
-is_watchless (ask.Write w) = true
-is_watchless (ask.Watch keys) = false
-is_watchless ask.Poll = false
-is_watchless ask.Take = true
-is_watchless (ask.Settle id done) = true
-
--- the step asks so
-abbrev pub asks_no_watch : Step → Bool
-asks_no_watch p = is_watchless p.ask
+use Rattle.dkv_core.specs.Seats.{AreWatchesOf}
+use Rattle.dkv_core.specs.declared.seats.Seat.{Seat}
 
 -- a limit that no weight passes
 abbrev pub no_limit : ℕ
@@ -57,9 +45,17 @@ pub record StandsFor (s : Situation) (c : Database) : Type 0 where
 abbrev pub IsAnswered : Database → ℕ → ℕ → Ask → Answer → Database → Type 0
 IsAnswered c who t a r d = (s : Situation) → StandsFor s c → (reply_to s who t a ≡ said r) × StandsFor (answered who t a (said r) s) d
 
--- in each situation of the one core the step has this answer and leads to a situation of the other
-abbrev pub IsStep : Database → Step → Answer → Database → Type 0
-IsStep c p a d = (s : Situation) → StandsFor s c → ((step s p false).0 ≡ said a) × StandsFor (step s p false).1 d
+-- in each situation of the one core with the watches of the seats the ask has this answer, and leads to a situation of the other core with the watches of the new seats
+abbrev pub IsAnsweredBeside : Database → List Seat → ℕ → ℕ → Ask → Answer → Database → List Seat → Type 0
+IsAnsweredBeside c seats who t a r d new =
+    (s : Situation) → StandsFor s c → AreWatchesOf s.watchers seats
+    → (reply_to s who t a ≡ said r) × StandsFor (answered who t a (said r) s) d × AreWatchesOf (answered who t a (said r) s).watchers new
+
+-- and so has the step
+abbrev pub IsStep : Database → List Seat → Step → Answer → Database → List Seat → Type 0
+IsStep c seats p a d new =
+    (s : Situation) → StandsFor s c → AreWatchesOf s.watchers seats
+    → ((step s p false).0 ≡ said a) × StandsFor (step s p false).1 d × AreWatchesOf (step s p false).1.watchers new
 
 -- so it is after some first steps
 abbrev pub IsCutShort : Database → List Step → Database → Type 0

@@ -33,6 +33,7 @@ impl Core {
         ensures decided { IfOk result (IsDecided self.new who at call.now) }
         ensures acknowledged { IsTrue (is_ack call.now) → IsOk result }
         ensures kept { SameContent self.old self.new }
+        ensures watches { self.new.watches ≡ self.old.watches }
         ensures room { IsNoLess self.old.room self.new.room }
     {
         match call {
@@ -54,6 +55,7 @@ impl Core {
         ensures decided { IfOk result (λ d.
             (who : ℕ) → IsDecided self.new who at (Write write.now) d) }
         ensures kept { SameContent self.old self.new }
+        ensures watches { self.new.watches ≡ self.old.watches }
         ensures room { IsNoLess self.old.room self.new.room }
     {
         match limits(write) {
@@ -75,6 +77,7 @@ impl Core {
         ensures decided { IfOk result (λ d.
             (who : ℕ) → IsDecided self.new who at (Write write.now) d) }
         ensures kept { SameContent self.old self.new }
+        ensures watches { self.new.watches ≡ self.old.watches }
         ensures room { IsNoLess self.old.room self.new.room }
     {
         let number = self.number + 1;
@@ -103,6 +106,7 @@ impl Core {
             (self.old.state.number + 1) effects }
         ensures goes { IfOk result (λ p. (who : ℕ) → Goes self.new who at (Write write.now) p) }
         ensures kept { SameContent self.old self.new }
+        ensures watches { self.new.watches ≡ self.old.watches }
         ensures room { IsNoLess self.old.room self.new.room }
     {
         let number = self.number + 1;
@@ -144,6 +148,7 @@ impl Core {
         requires out { IsTrue (is_out id self.old.out) }
         ensures goes { IfOk result (λ p. (who : ℕ) → Goes self.new who at (Fail id) p) }
         ensures kept { SameContent self.old self.new }
+        ensures watches { self.new.watches ≡ self.old.watches }
         ensures room { IsNoLess self.old.room self.new.room }
     {
         let number = self.number + 1;
@@ -173,6 +178,7 @@ impl Core {
         requires out { IsTrue (is_out id self.old.out) }
         ensures goes { IfOk result (λ p. (who : ℕ) → Goes self.new who at (settling done id) p) }
         ensures kept { SameContent self.old self.new }
+        ensures watches { self.new.watches ≡ self.old.watches }
         ensures room { IsNoLess self.old.room self.new.room }
     {
         if done {

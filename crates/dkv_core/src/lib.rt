@@ -1,7 +1,8 @@
 //! The one-thread database as a state machine, without a handle.
 //!
-//! The layer above may rely on this: a read, a take and a decision are exactly those of the definitions on the core's state, a
-//! decision changes nothing, and what was prepared is made without memory and can't be refused.
+//! The layer above may rely on this: a read, a take, a frame of a watch and a decision are exactly those of the definitions on the
+//! core's state, a decision changes nothing, and what was prepared is made without memory and can't be refused. Steps in order
+//! are answered as the definitions answer them, whoever asks.
 #![tactic(auto)]
 
 mod deciding;
@@ -13,10 +14,10 @@ mod prepared;
 mod put;
 mod reading;
 mod run;
+mod seats;
 mod takes;
-mod watchless;
+mod watches;
 
 pub use machine::Core;
 pub use prepared::{Decided, Prepared};
 pub use takes::{NextDue, Taken};
-pub use watchless::are_watchless;

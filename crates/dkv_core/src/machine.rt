@@ -15,13 +15,14 @@ use crate::enqueued::queue_of;
 use crate::entries::Entries;
 use crate::reading::{copy_all, find_all};
 use dkv_base::{Call, Entry, MAX_MOMENT, Message, MsgId, NoMemory, ReadRange, Run};
+use dkv_hub::Hub;
 use dkv_queue::Queue;
 use dkv_table::{Blocks, Table};
 use std::alloc::Global;
 use std::marker::Model;
 
-/// The database of one thread: the number and the moment of the last commit, the greatest moment so far, the entries, and
-/// the messages that wait or are out.
+/// The database of one thread: the number and the moment of the last commit, the greatest moment so far, the entries, the
+/// messages that wait or are out, and those who watch.
 #[derive(Drop)]
 pub struct Core {
     pub(crate) number: u64,
@@ -29,12 +30,14 @@ pub struct Core {
     pub(crate) greatest: u64,
     pub(crate) entries: Entries,
     pub(crate) queue: Queue,
+    pub(crate) hub: Hub,
 }
 
 impl Model for Core {
     ghost use Rattle.std.specs.Prelude.{◌≤◌, IsTrue};
     ghost use Rattle.std.specs.List.{list_all};
     ghost use Rattle.dkv_queue.specs.Rows.{messages_of, out_of};
+    ghost use Rattle.dkv_hub.specs.Frames.{are_committed};
     ghost use Rattle.dkv_core.specs.Cores.{Database, is_kept};
     ghost use Rattle.dkv_base.specs.declared.moments.TheConstants.{MAX_MOMENT};
 
@@ -49,13 +52,15 @@ impl Model for Core {
       };
       out = out_of c.queue.rows;
       greatest = c.greatest;
+      watches = c.hub;
       room = record { entries = c.entries.spare; endings = c.entries.endings; messages = c.queue.spare };
     } };
 
-    // No message is of a later commit, and none has failed too often.
+    // No message is of a later commit, none has failed too often, and no entry is of commit 0.
     ghost invariant = { λ c.
         (c.last ≤ c.greatest) × (c.greatest ≤ MAX_MOMENT)
-        × IsTrue (list_all (is_kept c.number) (messages_of c.queue.rows)) };
+        × IsTrue (list_all (is_kept c.number) (messages_of c.queue.rows))
+        × IsTrue (are_committed c.entries.entries) };
 }
 
 impl Core {
@@ -65,6 +70,7 @@ impl Core {
           state = empty_state;
           out = [];
           greatest = 0;
+          watches = [];
           room = record { entries = 0; endings = 0; messages = 0 };
         }) }
     {
@@ -74,11 +80,13 @@ impl Core {
             greatest: 0,
             entries: Entries::new(alloc),
             queue: Queue::new(alloc),
+            hub: Hub::new(alloc),
         })
     }
 
     /// The database of this state, in which no message is out. Its commit number is below 2^63, its moment in milliseconds
-    /// since 1970, its entries in key order and its messages in the order of their ids. Takes memory for its indexes.
+    /// since 1970, its entries in key order and its messages in the order of their ids. Nobody watches. Takes memory for its
+    /// indexes.
     pub fn of(
         alloc: Global,
         number: u64,
@@ -101,6 +109,7 @@ impl Core {
         }) }
         ensures out { IfOk result (λ c. c.out ≡ []) }
         ensures moment { IfOk result (λ c. c.greatest ≡ now) }
+        ensures watches { IfOk result (λ c. c.watches ≡ []) }
     {
         Ok(Core {
             number,
@@ -108,12 +117,14 @@ impl Core {
             greatest: now,
             entries: Entries::of(alloc, entries)?,
             queue: queue_of(alloc, messages)?,
+            hub: Hub::new(alloc),
         })
     }
 
-    /// An equal database, but for its room. Takes memory for it.
+    /// An equal database, but for its room, which nobody watches. Takes memory for it.
     pub fn copy(&self, alloc: Global) -> Result<Core, NoMemory>
-        ensures { IfOk result (SameContent self.now) }
+        ensures content { IfOk result (SameContent self.now) }
+        ensures watches { IfOk result (λ c. c.watches ≡ []) }
     {
         Ok(Core {
             number: self.number,
@@ -121,6 +132,7 @@ impl Core {
             greatest: self.greatest,
             entries: self.entries.copy(alloc)?,
             queue: self.queue.copy(alloc)?,
+            hub: Hub::new(alloc),
         })
     }
 

@@ -18,6 +18,7 @@ impl Core {
         ensures state { self.new.state ≡ applied prepared self.old.state }
         ensures out { self.new.out ≡ out_after prepared.settled self.old.out }
         ensures moment { self.new.greatest ≡ prepared.moment }
+        ensures watches { self.new.watches ≡ self.old.watches }
         ensures entries { self.old.room.entries ≤ self.new.room.entries + length prepared.puts }
         ensures endings { self.old.room.endings
             ≤ self.new.room.endings + count_by ends prepared.puts }
@@ -75,6 +76,7 @@ impl Core {
         requires { IsEffective self.old at }
         ensures taken { IfOk result (λ taken. IsTaken self.old at taken self.new) }
         ensures err { OnErr result (SameContent self.old self.new) }
+        ensures watches { self.new.watches ≡ self.old.watches }
         ensures room { IsNoLess self.old.room self.new.room }
     {
         let taken = match self.due(at) {
@@ -94,6 +96,7 @@ impl Core {
         ensures state { self.new.state ≡ self.old.state }
         ensures out { IsOutToo self.old id self.new }
         ensures moment { self.new.greatest ≡ self.old.greatest }
+        ensures watches { self.new.watches ≡ self.old.watches }
         ensures room { IsNoLess self.old.room self.new.room }
     {
         self.queue.take(id);

@@ -1,3 +1,4 @@
 pub mod KeyFrames
 pub mod HubRows
 pub mod Notes
+pub mod Unchanged

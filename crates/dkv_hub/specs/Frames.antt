@@ -1,6 +1,7 @@
 -- What a frame of a watch shows, as a watcher notes it.
 --     are_committed es      whether no entry is of commit 0
 --     IsFrame es t keys shown f      whether it is the frame of these entries beside what was shown
+--     IsToldStill es t keys shown f      whether, where there is no frame, what was shown is what these entries show
 --     shown_of o, shows es keys      what a frame shows of a key's entry, or of its absence; of each key
 --     commit_shown s, last_told o      the commit that was shown, or none; of all keys, if a frame was shown
 --     is_changed o was, is_new o was      whether a key's entry, or its absence, differs from what was shown; or nothing was
@@ -10,7 +11,7 @@ use Rattle.std.specs.List.{list_all}
 use Rattle.std.specs.Option.{option_eq, option_map_or}
 use Rattle.dkv_base.specs.declared.types.Entry.{Entry}
 use Rattle.dkv_base.specs.declared.types.Frame.{Frame}
-use Rattle.dkv_base.specs.Replies.{frame}
+use Rattle.dkv_base.specs.Replies.{frame, shown}
 use Rattle.dkv_base.specs.State.{State, entry_at}
 use Rattle.dkv_hub.specs.declared.shown.Shown.{Shown}
 
@@ -29,7 +30,7 @@ commit_shown s = then_some (not (s.commit == 0)) s.commit
 
 -- what the last frame showed, if there was one
 abbrev pub last_told : Option (List Shown) → Option (List (Option ℕ))
-last_told shown = option_map (map commit_shown) shown
+last_told last = option_map (map commit_shown) last
 
 -- each entry is of a commit; these count from 1
 abbrev pub are_committed : List Entry → Bool
@@ -37,7 +38,11 @@ are_committed es = list_all (λ e. nat_le 1 e.commit) es
 
 -- the frame, at the moment, of each database with these entries
 abbrev pub IsFrame : List Entry → ℕ → List (List ℕ) → Option (List Shown) → Option Frame → Type 0
-IsFrame es t keys shown f = (s : State) → s.entries ≡ es → f ≡ frame s t keys (last_told shown)
+IsFrame es t keys last f = (s : State) → s.entries ≡ es → f ≡ frame s t keys (last_told last)
+
+-- where there is no frame, what was shown is what a frame would show, in each database with these entries
+abbrev pub IsToldStill : List Entry → ℕ → List (List ℕ) → Option (List Shown) → Option Frame → Type 0
+IsToldStill es t keys last f = (s : State) → s.entries ≡ es → f ≡ None → last_told last ≡ Some (shown s t keys)
 
 -- the entry is of another commit than the one that was shown, or one is absent where the other isn't
 abbrev pub is_changed : Option Entry → Shown → Bool

@@ -3,7 +3,7 @@ ghost use Rattle.std.specs.Prelude.{◌≡◌, IfOk, map, length, if◌then◌el
 ghost use Rattle.std.specs.Option.{option_copied};
 ghost use Rattle.dkv_base.specs.State.{entry_at, visible};
 ghost use Rattle.dkv_base.specs.Replies.{key_frames, is_some_changed};
-ghost use Rattle.dkv_hub.specs.Frames.{IsFrame, commit_shown, shows, is_new};
+ghost use Rattle.dkv_hub.specs.Frames.{IsFrame, IsToldStill, commit_shown, shows, is_new};
 
 use crate::{Shown, Watcher};
 use dkv_atomic::is_visible;
@@ -107,7 +107,8 @@ impl Watcher {
         table: &T,
         at: u64,
     ) -> Result<Option<Frame>, NoMemory>
-        ensures { IfOk result (IsFrame (T.content table.now) at self.now.keys self.now.shown) }
+        ensures value { IfOk result (IsFrame (T.content table.now) at self.now.keys self.now.shown) }
+        ensures none { IfOk result (IsToldStill (T.content table.now) at self.now.keys self.now.shown) }
     {
         let keys = self.keys();
         let last = match self.shown() {

@@ -1,5 +1,5 @@
 // What a watch showed last, with room that is made ahead.
-ghost use Rattle.std.specs.Prelude.{◌≡◌, IfOk, Some, None, length};
+ghost use Rattle.std.specs.Prelude.{◌≡◌, IfOk, IfSome, Some, None, length};
 ghost use Rattle.std.specs.Option.{option_copied};
 
 use crate::Shown;
@@ -40,7 +40,8 @@ impl LastShown {
     }
 
     pub(crate) fn get(&self) -> Option<&[Shown]>
-        ensures { option_copied result ≡ self.now.shown }
+        ensures shown { option_copied result ≡ self.now.shown }
+        ensures room { IfSome result (λ shown. length shown.now ≡ self.now.room) }
     {
         if self.begun {
             Some(self.places.as_slice())

@@ -1,5 +1,5 @@
 // A watcher.
-ghost use Rattle.std.specs.Prelude.{◌≡◌, IfOk, Some, None, length};
+ghost use Rattle.std.specs.Prelude.{◌≡◌, IfSome, Some, length};
 ghost use Rattle.std.specs.Option.{option_copied};
 
 use crate::Shown;
@@ -37,7 +37,8 @@ impl Watcher {
 
     /// What the last frame showed of each key; none before the first frame. Takes no memory.
     pub fn shown(&self) -> Option<&[Shown]>
-        ensures { option_copied result ≡ self.now.shown }
+        ensures value { option_copied result ≡ self.now.shown }
+        ensures one_each { IfSome result (λ shown. length shown.now ≡ length self.now.keys) }
     {
         self.last.get()
     }

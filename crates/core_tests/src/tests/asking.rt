@@ -4,7 +4,7 @@ use super::telling::{say, say_answer};
 use dkv_base::{
     Answer, Ask, AtomicWrite, Bytes, Check, Enqueue, MsgId, Mutation, ReadRange, Run, Step, Value,
 };
-use dkv_core::{Core, are_watchless};
+use dkv_core::Core;
 use std::alloc::Global;
 use std::process::Abort;
 use std::test::Fail;
@@ -124,8 +124,22 @@ pub fn id_of(part: &Part) -> MsgId {
     }
 }
 
-fn ask(alloc: Global, parts: &[Part], first: &Part) -> Result<Ask, Fail> {
+/// The keys of a `watch`.
+pub fn watched(alloc: Global, part: &Part) -> Result<Run<Bytes>, Fail> {
+    let mut keys = Run::new(alloc);
+    for letter in [part.key, part.end] {
+        if letter > 0 {
+            keys.push(key(alloc, letter)?)?;
+        }
+    }
+    Ok(keys)
+}
+
+/// What the parts of a step ask.
+pub fn ask(alloc: Global, parts: &[Part], first: &Part) -> Result<Ask, Fail> {
     Ok(match first.word {
+        b'w' => Ask::Watch(watched(alloc, first)?),
+        b'p' => Ask::Poll,
         b't' => Ask::Take,
         b'h' => Ask::Settle {
             id: id_of(first),
@@ -144,7 +158,7 @@ fn run(rt: &impl Abort, alloc: Global, core: &mut Core, step: Step) -> Result<Ru
     let mut steps = Vec::new(alloc);
     steps.push(step)?;
     assert!(rt; core.number() < 1000);
-    assert!(rt; steps.len() == 1 && are_watchless(&steps));
+    assert!(rt; steps.len() == 1);
     Ok(core.run(alloc, &steps)?)
 }
 

@@ -1,11 +1,12 @@
 // The calls of a core beside `run`. With ample memory each gives what it was asked for.
-use super::asking::{range, write_of};
+use super::asking::{range, watched, write_of};
 use super::parts::make_part;
 use super::rows::{Row, go, go_on};
 use super::telling::say_entries;
-use dkv_atomic::read_limits;
-use dkv_base::{Call, MsgId, Run};
+use dkv_atomic::{read_limits, watch_limits};
+use dkv_base::{Ask, Call, MsgId, NoMemory, Run, Step};
 use dkv_core::{Core, Decided, NextDue, Taken};
+use dkv_hub::Watcher;
 use std::alloc::Global;
 use std::process::Abort;
 use std::test::Fail;
@@ -220,4 +221,72 @@ fn a_core_of_a_state_answers_as_the_one_that_came_to_it(rt: HostRuntime) -> Resu
     let alloc = rt.alloc();
     let core = Core::of(alloc, 1, 5, Run::new(alloc), Run::new(alloc))?;
     go_on(&rt, alloc, core, &OF_A_STATE)
+}
+
+// Begins a watch of the key a.
+fn watch(rt: &impl Abort, alloc: Global, core: &mut Core) -> Result<Watcher, Fail> {
+    let keys = watched(alloc, &make_part(b'w', b'a', 0, 0))?;
+    assert!(rt; watch_limits(keys.as_slice()).is_none());
+    Ok(core.watch(keys)?)
+}
+
+// 1 where there is a frame at the moment, 0 where there is none; and then the greatest moment.
+fn poll(
+    alloc: Global,
+    core: &mut Core,
+    watcher: &mut Watcher,
+    at: u64,
+) -> Result<(u64, u64), NoMemory> {
+    let at = core.moment(at);
+    let told = core.poll(alloc, watcher, at)?;
+    Ok((u64::from(told.is_some()), core.moment(0)))
+}
+
+// What polls at these moments give, one after the other.
+fn polls(
+    rt: &impl Abort,
+    alloc: Global,
+    core: &mut Core,
+    watcher: &mut Watcher,
+    wanted: &[(u64, u64)],
+) -> Result<(), NoMemory> {
+    for (told, at) in wanted {
+        let given = poll(alloc, core, watcher, *at)?;
+        assert_eq!(rt; given, (*told, *at));
+    }
+    Ok(())
+}
+
+#[test]
+fn a_watcher_polls_until_it_leaves(rt: HostRuntime) -> Result<(), Fail> {
+    let alloc = rt.alloc();
+    let mut core = go(&rt, alloc, &WRITTEN)?;
+    let mut watcher = watch(&rt, alloc, &mut core)?;
+    let wanted = [(1, 5), (0, 6), (0, 99), (1, 100), (0, 101)];
+    let polled = polls(&rt, alloc, &mut core, &mut watcher, &wanted);
+    core.unwatch(watcher);
+    polled?;
+    Ok(())
+}
+
+#[test]
+fn a_watch_goes_on_beside_a_run(rt: HostRuntime) -> Result<(), Fail> {
+    let alloc = rt.alloc();
+    let mut core = go(&rt, alloc, &WRITTEN)?;
+    let mut steps = Vec::new(alloc);
+    steps.push(Step {
+        who: 1,
+        at: 5,
+        ask: Ask::Write(write_of(alloc, "set a 8")?),
+    })?;
+    assert!(rt; core.number() < 1000 && steps.len() == 1);
+    let mut watcher = watch(&rt, alloc, &mut core)?;
+    let first = polls(&rt, alloc, &mut core, &mut watcher, &[(1, 5), (0, 5)]);
+    let went = core.run(alloc, &steps);
+    let then = polls(&rt, alloc, &mut core, &mut watcher, &[(1, 5), (0, 5)]);
+    core.unwatch(watcher);
+    first?;
+    assert_eq!(rt; went?.len(), 1);
+    then?;
+    Ok(())
 }

@@ -78,6 +78,21 @@ impl Draws {
         Ok(parts)
     }
 
+    /// Any step, or in two of five draws a watch of one or two keys, or a poll.
+    pub fn watching_step(&mut self, alloc: Global, list: &PlainList) -> Result<Vec<Part>, Fail> {
+        let mut one = match self.bits() % 10 {
+            0 => make_part(b'w', self.key(), 0, 0),
+            1..=3 => make_part(b'p', 0, 0, 0),
+            _ => return self.step(alloc, list),
+        };
+        if one.key > 0 && self.happens(2) {
+            one.end = self.key();
+        }
+        let mut parts = Vec::new(alloc);
+        parts.push(one)?;
+        Ok(parts)
+    }
+
     /// A write with so many messages.
     pub fn write(
         &mut self,

@@ -18,7 +18,7 @@ fn answers_agree(
     (who, at): (u32, u64),
     parts: &[Part],
 ) -> Result<String, Fail> {
-    let wanted = list.answer(alloc, at, parts)?;
+    let wanted = list.answer(alloc, (who, at), parts)?;
     let given = answer_to(rt, alloc, core, (who, at), parts)?;
     assert_eq!(rt; given.as_str(), wanted.as_str(), "{parts:?} at {at}");
     Ok(given)

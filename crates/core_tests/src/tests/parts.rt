@@ -16,6 +16,7 @@ use std::test::Fail;
 /// |---|---|
 /// | `get KEY`, `read KEY END LIMIT`, `back KEY END LIMIT` | one entry, the entries of a range up, and down |
 /// | `take`, `handled COMMIT INDEX`, `failed COMMIT INDEX` | a take, and the settlement of a message |
+/// | `watch KEY KEY`, `poll` | a watch of up to two keys, and the next frame of the caller's watch |
 /// | `now` | no step: the last commit's number and moment, the greatest moment, and how many messages there are |
 /// | `out COMMIT INDEX` | no step: whether the message is out |
 #[derive(Clone, Copy, Debug)]

@@ -1,6 +1,6 @@
 // The slow program beside the core: entries and messages in lists, without order, that are gone through from their start.
 use super::parts::{NOTHING, Part};
-use super::telling::{say, say_entry, say_leased};
+use super::telling::{say, say_entry, say_key, say_leased};
 use std::alloc::Global;
 use std::test::Fail;
 
@@ -46,6 +46,15 @@ impl Waiting {
     }
 }
 
+/// A caller's watch, and the commits that its last frame showed; 0 where a key was absent.
+#[derive(Clone, Copy)]
+struct Watching {
+    who: u32,
+    keys: [u8; 2],
+    shown: [u64; 2],
+    is_new: bool,
+}
+
 #[derive(Drop)]
 pub struct PlainList {
     number: u64,
@@ -53,6 +62,7 @@ pub struct PlainList {
     greatest: u64,
     entries: Vec<Stored>,
     messages: Vec<Waiting>,
+    watches: Vec<Watching>,
     // The parts of all writes, with nothing behind each.
     parts: Vec<Part>,
 }
@@ -65,6 +75,7 @@ impl PlainList {
             greatest: 0,
             entries: Vec::new(alloc),
             messages: Vec::new(alloc),
+            watches: Vec::new(alloc),
             parts: Vec::new(alloc),
         }
     }
@@ -94,8 +105,13 @@ impl PlainList {
         (self.number, 0)
     }
 
-    /// Does what is asked at a moment.
-    pub fn answer(&mut self, alloc: Global, at: u64, parts: &[Part]) -> Result<String, Fail> {
+    /// Does what a caller asks at a moment.
+    pub fn answer(
+        &mut self,
+        alloc: Global,
+        (who, at): (u32, u64),
+        parts: &[Part],
+    ) -> Result<String, Fail> {
         let first = parts.first().copied().unwrap_or(NOTHING);
         let id = (first.first, first.second);
         let effective = at.min(LAST_MOMENT).max(self.greatest);
@@ -103,6 +119,8 @@ impl PlainList {
             b'n' => return self.now(alloc),
             b'o' => return say(alloc, "out", &[u64::from(self.is_out(id))]),
             b'h' | b'f' if !self.is_out(id) => return say(alloc, "not out", &[]),
+            b'w' if first.key == 0 => return say(alloc, "limit", &[]),
+            b'p' if !self.is_watching(who) => return say(alloc, "no watch", &[]),
             _ if parts.iter().any(|part| part.word == b'x') => return say(alloc, "limit", &[]),
             _ => self.greatest = effective,
         }
@@ -110,6 +128,8 @@ impl PlainList {
             b't' => self.take(alloc),
             b'h' | b'f' => self.settle(alloc, id, first.word == b'h'),
             b'g' | b'r' | b'b' => self.read(alloc, &first),
+            b'w' => self.watch(alloc, who, [first.key, first.end]),
+            b'p' => self.poll(alloc, who),
             _ => self.write(alloc, parts),
         }
     }
@@ -142,6 +162,55 @@ impl PlainList {
                 if count < most {
                     say_entry(&mut text, key, entry.is_payload, entry.number, entry.commit)?;
                     count = count.wrapping_add(1);
+                }
+            }
+        }
+        Ok(text)
+    }
+
+    fn is_watching(&self, who: u32) -> bool {
+        self.watches.iter().any(|watch| watch.who == who)
+    }
+
+    // A caller's watch goes where it begins another.
+    fn watch(&mut self, alloc: Global, who: u32, keys: [u8; 2]) -> Result<String, Fail> {
+        self.watches.retain(|watch| watch.who != who);
+        self.watches.push(Watching {
+            who,
+            keys,
+            shown: [0, 0],
+            is_new: true,
+        })?;
+        self.poll(alloc, who)
+    }
+
+    fn poll(&mut self, alloc: Global, who: u32) -> Result<String, Fail> {
+        for place in 0..self.watches.len() {
+            let watch = self.watches[place];
+            if watch.who == who {
+                let shown = [self.commit_of(watch.keys[0]), self.commit_of(watch.keys[1])];
+                self.watches[place].shown = shown;
+                self.watches[place].is_new = false;
+                if watch.is_new || shown != watch.shown {
+                    return self.frame(alloc, &watch);
+                }
+            }
+        }
+        say(alloc, "no frame", &[])
+    }
+
+    // What stands under the keys, beside what was shown.
+    fn frame(&self, alloc: Global, watch: &Watching) -> Result<String, Fail> {
+        let mut text = say(alloc, "frame", &[])?;
+        for place in 0..2usize {
+            let key = watch.keys[place];
+            if key > 0 {
+                let changed = watch.is_new || self.commit_of(key) != watch.shown[place];
+                match find(&self.entries, key, self.greatest) {
+                    Some(entry) if changed => {
+                        say_entry(&mut text, key, entry.is_payload, entry.number, entry.commit)?;
+                    }
+                    _ => say_key(&mut text, changed)?,
                 }
             }
         }

@@ -29,7 +29,7 @@ fn list_goes_as(
     (at, asked, wanted): Row<'_>,
 ) -> Result<(), Fail> {
     let parts = parts_of(alloc, asked)?;
-    let given = list.answer(alloc, at, &parts)?;
+    let given = list.answer(alloc, (2, at), &parts)?;
     assert_eq!(rt; given.as_str(), wanted, "the plain list, {asked} at {at}");
     Ok(())
 }

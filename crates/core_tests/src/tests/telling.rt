@@ -1,5 +1,5 @@
 // How a step went, as a short text.
-use dkv_base::{Answer, Entry, Message, Run};
+use dkv_base::{Answer, Entry, Frame, KeyFrame, Message, Run};
 use std::alloc::Global;
 use std::fmt::Write;
 use std::test::Fail;
@@ -90,6 +90,27 @@ fn say_places(alloc: Global, places: &Run<u32>) -> Result<String, Fail> {
     say(alloc, "fails", &numbers)
 }
 
+/// What a frame tells of a key that didn't change, or that is absent.
+pub fn say_key(text: &mut String, changed: bool) -> Result<(), Fail> {
+    text.push_str(if changed { ", absent" } else { ", same" })?;
+    Ok(())
+}
+
+fn say_key_frame(text: &mut String, key: &KeyFrame) -> Result<(), Fail> {
+    match &key.entry {
+        Some(entry) => say_found(text, entry),
+        None => say_key(text, key.changed),
+    }
+}
+
+fn say_frame(alloc: Global, frame: &Frame) -> Result<String, Fail> {
+    let mut text = String::from_str(alloc, "frame")?;
+    for key in frame.keys.as_slice() {
+        say_key_frame(&mut text, key)?;
+    }
+    Ok(text)
+}
+
 pub fn say_answer(alloc: Global, answer: &Answer) -> Result<String, Fail> {
     match answer {
         Answer::Written { n } => say(alloc, "written", &[*n]),
@@ -102,6 +123,8 @@ pub fn say_answer(alloc: Global, answer: &Answer) -> Result<String, Fail> {
         Answer::Settled { n } => say(alloc, "settled", &[*n]),
         Answer::NoLease => say(alloc, "not out", &[]),
         Answer::Limit(_) => say(alloc, "limit", &[]),
-        Answer::Frame(_) | Answer::NoWatch => say(alloc, "a watch", &[]),
+        Answer::Frame(Some(frame)) => say_frame(alloc, frame),
+        Answer::Frame(None) => say(alloc, "no frame", &[]),
+        Answer::NoWatch => say(alloc, "no watch", &[]),
     }
 }

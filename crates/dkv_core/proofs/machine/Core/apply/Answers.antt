@@ -6,6 +6,7 @@ use Rattle.dkv_base.specs.declared.types.Message.{Message}
 use Rattle.dkv_base.specs.Messages.{is_out}
 use Rattle.dkv_queue.specs.Rows.{messages_of, out_of}
 use Rattle.dkv_queue.specs.declared.row.Row.{Row}
+use Rattle.dkv_hub.specs.Frames.{are_committed}
 use Rattle.dkv_core.specs.Cores.{Database, Change, IsReady, is_kept, is_made_by, applied, put_all, without_all}
 use Rattle.dkv_core.specs.Rows.{is_above}
 use Rattle.dkv_core.specs.Settling.{after_settlement, out_after}
@@ -44,12 +45,15 @@ invariant_of-self c =
     let ready = subst (λ (q : Change). IsReady c.args.self.now q) (sym c.prepared.view_is) c.requires in
     let number : p.number ≡ x.number + 1 = ready.number ∙ ap (λ (v : Database). v.state.number + 1) (sym c.self.view_is) in
     let made = subst (λ (n : ℕ). list_all (is_made_by n) p.added ≡ true) number ready.made in
-    let messages = c.add_all.ensures.messages ∙ ap (λ (ms : List Message). ms ++ p.added) (ap messages_of c.settle.ensures.rows ∙ messages-after p.settled p.moment x.queue.rows) in (
+    let messages = c.add_all.ensures.messages ∙ ap (λ (ms : List Message). ms ++ p.added) (ap messages_of c.settle.ensures.rows ∙ messages-after p.settled p.moment x.queue.rows) in
+    let change : Change = record { number = p.number; moment = p.moment; puts = p.puts; removed = p.removed; added = p.added; settled = p.settled } in
+    let entries = c.put_all.ensures.entries ∙ ap (λ (es : List Entry). put_all p.puts es) (c.remove_all.ensures.entries ∙ ap (λ (es : List Entry). without_all p.removed es) c.drop_ended.ensures.entries) in (
       omega arith,
       ready.moment.within,
       ap (list_all (is_kept p.number)) messages
           ∙ ap (λ (n : ℕ). list_all (is_kept n) (after_settlement p.settled p.moment (messages_of x.queue.rows) ++ p.added)) number
           ∙ kept-applied x.number p.moment p.settled (messages_of x.queue.rows) p.added c.self.invariant.2 made,
+      ap are_committed entries ∙ ap (λ (v : Database). are_committed (applied change v.state).entries) c.self.view_is ∙ ready.committed,
     )
 
 pub returns-clause-state : goal.returns-clause-state

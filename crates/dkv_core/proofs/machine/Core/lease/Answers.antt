@@ -20,6 +20,7 @@ invariant_of-self c = (
   c.self.invariant.0,
   c.self.invariant.1,
   ap (list_all (is_kept c.self.inside.number)) (ap messages_of c.take.ensures.rows ∙ messages-taken c.args.id c.self.inside.queue.rows) ∙ c.self.invariant.2,
+  c.self.invariant.3,
 )
 
 pub returns-clause-state : goal.returns-clause-state

@@ -1,28 +1,26 @@
-use Rattle.std.proofs.Common.{◌+◌, ◌<◌, List, length, take, sym, subst, arith}
-use Rattle.std.specs.Prelude.{Result, Ok, Err, OnErr}
-use Rattle.dkv_base.specs.declared.types.Answer.{Answer}
-use Rattle.dkv_core.proofs.Running.{Ran, ran_next, cut_short}
+use Rattle.std.proofs.Common.{ap, ◌∙◌}
+use Rattle.std.specs.Prelude.{Result, Ok, Err, OnErr, OnOk}
+use Rattle.dkv_core.specs.Cores.{Database}
+use Rattle.dkv_core.proofs.Running.{stays_run}
 use Rattle.dkv_core.proofs.machine.Core.run.Goals as goal
 
-on_err : {A E P : Type 0} (r : Result A E) → P → OnErr r P
-on_err (Ok x) p = tt
-on_err (Err e) p = p
+on_ok : {A E P Q : Type 0} (r : Result A E) → (P → Q) → OnOk r P → OnOk r Q
+on_ok (Ok x) so p = so p
+on_ok (Err e) so p = tt
 
-pub loop-step-preserved : goal.loop-step-preserved
-loop-step-preserved c =
-    let i = c.loop-step.step-index in
-    let ps = c.args.steps.now in
-    let lt : i < length ps = omega arith in
-    record {
-      ran = subst (λ (rs : List Answer). Ran c.args.self.now (take (i + 1) ps) rs c.step.new.self) (sym c.in_ok-add.ensures.ok)
-          (ran_next c.args.self.now c.loop-step.self c.step.new.self ps i c.step-item.result c.loop-step.answers c.in_ok-answer.answer lt c.step-item.is c.loop-step.invariant.ran c.in_ok-answer.ensures.answer);
-      few = omega (arith, c.in_ok-answer.ensures.next, c.loop-step.invariant.few);
-    }
+on_err : {A E P Q : Type 0} (r : Result A E) → (P → Q) → OnErr r P → OnErr r Q
+on_err (Ok x) so p = tt
+on_err (Err e) so p = so p
 
-pub returns-in_err-add-clause-err : goal.returns-in_err-add-clause-err
-returns-in_err-add-clause-err c =
-    let i = c.loop-step.step-index in
-    let ps = c.args.steps.now in
-    let lt : i < length ps = omega arith in
-    let ran = ran_next c.args.self.now c.loop-step.self c.step.new.self ps i c.step-item.result c.loop-step.answers c.in_ok-answer.answer lt c.step-item.is c.loop-step.invariant.ran c.in_ok-answer.ensures.answer in
-    on_err c.from_residual-in_err-add.result (cut_short c.args.self.now c.step.new.self ps (i + 1) ran.leads)
+pub returns-clause-leaves : goal.returns-clause-leaves
+returns-clause-leaves c =
+    on_ok c.answer_all-answers.result (stays_run _ c.answer_all-answers.new.self c.leave_all.new.self c.answer_all-answers.new.seats.items c.leave_all.ensures) c.answer_all-answers.ensures.leaves
+
+pub returns-clause-err : goal.returns-clause-err
+returns-clause-err c =
+    on_err c.answer_all-answers.result
+    (λ cut. (cut.0, stays_run _ c.answer_all-answers.new.self c.leave_all.new.self c.answer_all-answers.new.seats.items c.leave_all.ensures cut.1))
+    c.answer_all-answers.ensures.err
+
+pub returns-clause-watches : goal.returns-clause-watches
+returns-clause-watches c = ap (λ (v : Database). v.watches) c.leave_all.ensures ∙ c.answer_all-answers.ensures.watches
