@@ -47,15 +47,15 @@ pub head_long : (head : FileHead) (m : ℕ) → length head.id ≡ 16 → length
 head_long head m id secret =
     let start = mark ++ to_le_bytes w32 1 ++ to_le_bytes w32 (profile_number first_layout.profile) ++ to_le_bytes w64 head.generation in
     omega (
-    arith,
-    id,
-    secret,
-    length-append (start ++ head.id ++ head.secret ++ to_le_bytes w64 m ++ to_le_bytes w64 head.n) (to_le_bytes w64 head.now),
-    length-append (start ++ head.id ++ head.secret ++ to_le_bytes w64 m) (to_le_bytes w64 head.n),
-    length-append (start ++ head.id ++ head.secret) (to_le_bytes w64 m),
-    length-append (start ++ head.id) head.secret,
-    length-append start head.id,
-  )
+      arith,
+      id,
+      secret,
+      length-append (start ++ head.id ++ head.secret ++ to_le_bytes w64 m ++ to_le_bytes w64 head.n) (to_le_bytes w64 head.now),
+      length-append (start ++ head.id ++ head.secret ++ to_le_bytes w64 m) (to_le_bytes w64 head.n),
+      length-append (start ++ head.id ++ head.secret) (to_le_bytes w64 m),
+      length-append (start ++ head.id) head.secret,
+      length-append start head.id,
+    )
 
 -- ---- the file
 

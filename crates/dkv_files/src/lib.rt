@@ -1,6 +1,7 @@
 //! The two files of a database: their bytes, what two files stand for, and what a crash may leave of them.
 //!
-//! The layer above may rely on this: a database that is created is there whole or not at all, whatever moment a crash comes at.
+//! The layer above may rely on this: a database that is created is there whole or not at all, whatever moment a crash comes at; and
+//! while the file of a pair that isn't used is written anew, the pair stands for the state that it stood for.
 #![tactic(auto)]
 
 mod creating;

@@ -2,7 +2,7 @@
 ghost use Rattle.std.specs.Prelude.{◌≡◌, ◌<◌, ◌^◌, ◌∷◌, [], pos, length, IfOk};
 
 use crate::{
-    CheckpointRefusal, CreateRefusal, FileHead, HeadState, Pair, create, is_new, read_head,
+    CheckpointRefusal, CreateRefusal, FileHead, HeadState, Pair, create, is_new, read_head, renew,
     write_whole,
 };
 use dkv_base::{Bytes, Entry, NoMemory};
@@ -163,7 +163,11 @@ fn image_file(alloc: Global) -> Result<Vec<u8>, AllocError> {
 // The entry `x` under the key 02 61 00, made by commit 1 and never ended.
 fn one_entry(alloc: Global) -> Result<Blocks, NoMemory>
     ensures { IfOk result (λ t. ⟦<Blocks as Table>⟧.content t ≡ record {
-        key = 2 ∷ 97 ∷ 0 ∷ []; bytes = 120 ∷ []; encoding = pos 3; commit = 1; expire = 0;
+      key = 2 ∷ 97 ∷ 0 ∷ [];
+      bytes = 120 ∷ [];
+      encoding = pos 3;
+      commit = 1;
+      expire = 0;
     } ∷ []) }
 {
     let mut table = Blocks::new(alloc);
@@ -213,7 +217,7 @@ fn a_fault_in_each_disk_call_leaves_no_file_or_the_whole_one(rt: HostRuntime) ->
         (7, 1, 142, (0, 0)),
         (8, 1, 142, (0, 0)),
         (9, 1, 142, (1, 47)),
-        (10, 141, 142, (1, 47)),
+        (99, 141, 142, (1, 47)),
     ];
     for (call, answer, len, want) in rows {
         let mut disk = disk(rt.alloc(), file(rt.alloc(), 2)?, &[call])?;
@@ -224,11 +228,34 @@ fn a_fault_in_each_disk_call_leaves_no_file_or_the_whole_one(rt: HostRuntime) ->
     Ok(())
 }
 
+// Writes the file on the second disk of a pair, and the place that is given; 1 for a refusal.
+fn renewed(alloc: Global, pair: &mut Pair<MemoryDisk>) -> u64 {
+    let Ok(table) = one_entry(alloc) else {
+        return 1;
+    };
+    let queue = Queue::new(alloc);
+    let head = FileHead {
+        generation: 2,
+        id: ID,
+        secret: [0; 32],
+        n: 1,
+        now: 5,
+    };
+    match renew(alloc, pair, true, &head, &table, &queue) {
+        Ok(place) => place,
+        Err(_) => 1,
+    }
+}
+
 #[test]
-fn a_file_of_one_entry_is_written_byte_by_byte(rt: HostRuntime) -> Result<(), Fail> {
-    let mut disk = disk(rt.alloc(), file(rt.alloc(), 113)?, &[])?;
-    assert_eq!(rt; whole(rt.alloc(), &mut disk), 141);
+fn the_file_that_is_not_used_is_written_byte_by_byte(rt: HostRuntime) -> Result<(), Fail> {
+    let a = disk(rt.alloc(), file(rt.alloc(), 113)?, &[])?;
+    let b = disk(rt.alloc(), file(rt.alloc(), 113)?, &[])?;
+    let mut pair = Pair { a, b };
+    assert_eq!(rt; renewed(rt.alloc(), &mut pair), 141);
+    let used = file(rt.alloc(), 113)?;
+    assert_eq!(rt; pair.a.bytes(), used.as_slice());
     let want = image_file(rt.alloc())?;
-    assert_eq!(rt; disk.bytes(), want.as_slice());
+    assert_eq!(rt; pair.b.bytes(), want.as_slice());
     Ok(())
 }
