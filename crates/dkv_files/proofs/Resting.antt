@@ -4,7 +4,8 @@ use Rattle.dkv_io.specs.Disks.{Moves, PairImages, LeavesOnly, NoMore, stays, a_m
 use Rattle.dkv_io.proofs.Moments.{weaker}
 use Rattle.dkv_io.proofs.Moves as runs
 use Rattle.dkv_io.proofs.Moments as calls
-use Rattle.dkv_files.specs.Crashes.{WritesNothing, OnlyReads}
+use Rattle.dkv_image_io.specs.Reading.{OnlyReads}
+use Rattle.dkv_files.specs.Crashes.{WritesNothing}
 
 module _ {D : Type 0} (images : D → List ℕ → Type 0) (moment : D → ℕ) (since : D → ℕ → List ℕ → Type 0) where
   pub both : (a b c d : D) → LeavesOnly moment since a c (images a) → NoMore (images a) (images c) → LeavesOnly moment since b d (images b) → NoMore (images b) (images d) → WritesNothing images moment since a b c d
@@ -28,6 +29,10 @@ module _ {D : Type 0} (images : D → List ℕ → Type 0) (moment : D → ℕ) 
   pub moves_of : ((d : D) (t : ℕ) (x : List ℕ) → t ≤ moment d → images d x → since d t x) → (a a_end b : D) (P : List ℕ → List ℕ → Type 0)
       → LeavesOnly moment since a a_end (λ x. (y : List ℕ) → images b y → P x y) → Moves images moment since P a b a_end b
   moves_of counts a a_end b P leaves = a_moves a b a_end a_end b leaves (stays a_end b (λ x y now has. leaves.each x (counts a_end (moment a) x leaves.later now) y has))
+
+  pub moves_of_second : ((d : D) (t : ℕ) (x : List ℕ) → t ≤ moment d → images d x → since d t x) → (a b b_end : D) (P : List ℕ → List ℕ → Type 0)
+      → LeavesOnly moment since b b_end (λ y. (x : List ℕ) → images a x → P x y) → Moves images moment since P a b a b_end
+  moves_of_second counts a b b_end P leaves = b_moves a b b_end a b_end leaves (stays a b_end (λ x y has now. leaves.each y (counts b_end (moment b) y leaves.later now) x has))
 
   -- a call that only reads, and then another
   pub reads_on : (seen : D → Option (List ℕ)) (a b c : D) → OnlyReads seen images moment since a b → OnlyReads seen images moment since b c → OnlyReads seen images moment since a c

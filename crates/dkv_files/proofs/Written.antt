@@ -162,7 +162,7 @@ module _ (k : Known) (l : Layout) (head : FileHead) (es : List Entry) (ms : List
   profile_is : profile_of file ≡ profile_number l.profile
   profile_is = ap (λ (x : List ℕ). profile_of x) at_id ∙ from_le_bytes-to_le_bytes_4 (profile_number l.profile) (profile_small l.profile)
 
-  generation_is : generation_of file ≡ head.generation
+  pub generation_is : generation_of file ≡ head.generation
   generation_is = ap (λ (x : List ℕ). generation_of x) at_id ∙ from_le_bytes-to_le_bytes_8 head.generation (omega (arith, is.numbers.last))
 
   mark_is : slice_range file 1 8 ≡ mark
@@ -194,7 +194,7 @@ module _ (k : Known) (l : Layout) (head : FileHead) (es : List Entry) (ms : List
       (omega (arith, long_72, length-append (start ++ head.id ++ head.secret ++ m8) n8, length-append (start ++ head.id ++ head.secret) m8)) refl)
       ∙ from_le_bytes-to_le_bytes_8 head.now (omega (arith, is.numbers.now))
 
-  layout_is : layout_of file ≡ l
+  pub layout_is : layout_of file ≡ l
   layout_is = (λ i. record { format = format_is i; profile = profile_at (profile_is i) }) ∙ ap (λ (p : Profile). (let x : Layout = record { format = l.format; profile = p } in x)) (profile_back l.profile)
 
   bounds_is : bounds_of file ≡ bounds l.profile (state_of head es ms)
@@ -204,14 +204,14 @@ module _ (k : Known) (l : Layout) (head : FileHead) (es : List Entry) (ms : List
   end_is : image_end file ≡ 96 + m
   end_is = ap (λ (n : ℕ). 96 + n) m_is
 
-  long_front : length (OPEN_GATE ∷ front l head es ms) ≡ 96 + m
+  pub long_front : length (OPEN_GATE ∷ front l head es ms) ≡ 96 + m
   long_front = omega (arith, long_96, length-append (OPEN_GATE ∷ head_bytes l head m) img)
 
   gate_by : (h : Bool) (d : List ℕ) (e : ℕ) → length d ≡ (if h then 32 else 0) → (if h then e + 32 else e) ≡ e + length d
   gate_by true d e long = omega (arith, long)
   gate_by false d e long = omega (arith, long)
 
-  gate_is : first_gate file ≡ length before
+  pub gate_is : first_gate file ≡ length before
   gate_is = (λ i. if has_digests (layout_is i) then end_is i + 32 else end_is i) ∙ gate_by (has_digests l) digest (96 + m) long_digest
       ∙ omega (arith, long_front, length-append (OPEN_GATE ∷ front l head es ms) digest)
 
@@ -238,7 +238,7 @@ module _ (k : Known) (l : Layout) (head : FileHead) (es : List Entry) (ms : List
   base_is : base_of file es ms ≡ state_of head es ms
   base_is i = record { number = n_is i; moment = now_is i; entries = es; messages = ms }
 
-  scan_is : scanned_at l (length before) file ≡ record { bodies = map record_body cs; place = length before + (length (records l (length before) (map record_body cs)) - 1); end = at_closed }
+  pub scan_is : scanned_at l (length before) file ≡ record { bodies = map record_body cs; place = length before + (length (records l (length before) (map record_body cs)) - 1); end = at_closed }
   scan_is = ap (λ (x : List ℕ). scanned l (length before) (drop (length before) x)) at_records
       ∙ ap (λ (x : List ℕ). scanned l (length before) x) (drop_at before recs (length before) refl)
       ∙ scans l (length before) (map record_body cs) rest (bodies_short l.profile cs is.bodies)
@@ -250,7 +250,7 @@ module _ (k : Known) (l : Layout) (head : FileHead) (es : List Entry) (ms : List
         ∙ ap (λ (r : Result (List Commit) ℕ). settled at_closed (length before + (length (records l (length before) (map record_body cs)) - 1)) r)
         (replay_all write_of reads l (state_of head es ms) cs [] (length before) is.commits is.bodies is.legal)
 
-    file_read : from_file write_of which file ≡ found (found_of l head es ms cs)
+    pub file_read : from_file write_of which file ≡ found (found_of l head es ms cs)
     file_read =
         ap (λ (v : Bool). if not v then damaged which (image_end file) else from_image write_of which file (image_of (bounds_of file) (slice_range file 96 (image_end file)))) its
         ∙ ap (λ (r : Result (List Entry × List Message) ℕ). from_image write_of which file r) image_read
@@ -267,7 +267,7 @@ module _ (k : Known) (l : Layout) (head : FileHead) (es : List Entry) (ms : List
   long_file : length before < length file
   long_file = omega (arith, ap length at_records, length-append before recs, length-append (records l (length before) (map record_body cs)) rest, positive (map record_body cs) (length before))
 
-  stands : Stands k file
+  pub stands : Stands k file
   stands =
       let long : nat_le 96 (length file) ≡ true = le-leb 96 (length file) (omega (arith, long_file, long_front, length-append (OPEN_GATE ∷ front l head es ms) digest)) in
       let opened : is_open file ≡ true = ap (λ (v : Bool). v && true) long in

@@ -1,11 +1,10 @@
 -- What a pair of files stands for, and what a stop in each call may leave.
 --     StandsFor, Doubtful      each image of the pair recovers to a state, or to it and one commit
 --     ClearLeaves, FillLeaves, GateLeaves, WholeLeaves      an image in a clear, a fill, an opening of the gate, and in all of them
---     OnlyReads      what a call that only reads leaves
 --     WhereBothTold      where both disks tell their files
 --     CommitMoves, CheckpointMoves, CreateLeaves, RunLeaves      a pair's images in a commit, a checkpoint, a create, a run
 --     read      is what two files recover to, as recovered with its reading of writes
-use Rattle.std.specs.Prelude.{ℕ, ◌≡◌, ◌⊎◌, ◌^◌, ◌<◌, ◌≤◌, false, IsTrue, Contains, List, [], ◌∷◌, length, take, slice_get, Option, Some, None}
+use Rattle.std.specs.Prelude.{ℕ, ◌≡◌, ◌⊎◌, ◌^◌, ◌<◌, ◌≤◌, false, IsTrue, Contains, List, [], ◌∷◌, length, take, Option, Some, None}
 use Rattle.std.specs.Option.{option_map_or}
 use Rattle.dkv_base.specs.declared.types.Commit.{Commit}
 use Rattle.dkv_base.specs.State.{State, empty_state}
@@ -13,7 +12,7 @@ use Rattle.dkv_base.specs.declared.moments.TheConstants.{MAX_MOMENT}
 use Rattle.dkv_base.specs.After.{after, is_legal_at}
 use Rattle.dkv_files.specs.declared.head.FileHead.{FileHead}
 use Rattle.dkv_base.specs.declared.types.Profile.{Profile}
-use Rattle.dkv_io.specs.Disks.{PairImages, EachPair, Moves, LeavesOnly, NoMore}
+use Rattle.dkv_io.specs.Disks.{PairImages, EachPair, Moves}
 use Rattle.dkv_journal.specs.Crashes.{WithGate}
 use Rattle.dkv_journal.specs.Records.{is_closed_at}
 use Rattle.dkv_files.specs.Files.{is_open}
@@ -38,13 +37,13 @@ FillLeaves c = IsTrue (is_closed_at 0 c)
 abbrev pub GateLeaves : List ℕ → List ℕ → Type 0
 GateLeaves d c = WithGate 0 d c
 
+-- it is the file, which has a length that a disk may have
+abbrev pub IsWritten : List ℕ → List ℕ → Type 0
+IsWritten file c = (c ≡ file) × (length file < 2 ^ 63)
+
 -- an image of the start, a file that isn't open, or the whole file
 abbrev pub WholeLeaves : (List ℕ → Type 0) → List ℕ → List ℕ → Type 0
-WholeLeaves start file c = start c ⊎ (is_open c ≡ false) ⊎ (c ≡ file)
-
--- not empty, and with the first byte of an image of the start
-abbrev pub KeepsFront : (List ℕ → Type 0) → List ℕ → Type 0
-KeepsFront start c = (0 < length c) × ((d : List ℕ) × start d × (slice_get c 0 ≡ slice_get d 0))
+WholeLeaves start file c = start c ⊎ (is_open c ≡ false) ⊎ IsWritten file c
 
 -- the numbers of a header
 pub record IsHead (head : FileHead) : Type 0 where
@@ -139,12 +138,6 @@ RunLeaves a_start b_start read who base cs doubts a b =
 -- each image of the pair at each moment of a call is one that its start might have left
 abbrev pub WritesNothing : {D : Type 0} → (D → List ℕ → Type 0) → (D → ℕ) → (D → ℕ → List ℕ → Type 0) → D → D → D → D → Type 0
 WritesNothing images moment since a b a_end b_end = Moves images moment since (PairImages (images a) (images b)) a b a_end b_end
-
--- a call that only reads: no new image, and each image at each moment is one of the start
-pub record OnlyReads {D : Type 0} (seen : D → Option (List ℕ)) (images : D → List ℕ → Type 0) (moment : D → ℕ) (since : D → ℕ → List ℕ → Type 0) (old new : D) : Type 0 where
-  pub same : seen new ≡ seen old
-  pub crash : NoMore (images old) (images new)
-  pub leaves : LeavesOnly moment since old new (images old)
 
 -- where both disks tell their files, this is so of them
 abbrev pub WhereBothTold : Option (List ℕ) → Option (List ℕ) → (List ℕ → List ℕ → Type 0) → Type 0

@@ -1,16 +1,22 @@
 // The making of a new database in two files.
-ghost use Rattle.std.specs.Prelude.{◌≡◌, ◌⊎◌, MatchResult, OnOk, Err};
+ghost use Rattle.std.specs.Prelude.{◌≡◌, ◌⊎◌, ◌∷◌, [], MatchResult, OnOk, Err, length};
 ghost use Rattle.dkv_base.specs.State.{empty_state};
-ghost use Rattle.dkv_io.specs.Causes.{Rose};
-ghost use Rattle.dkv_files.specs.Crashes.{CreateMoves, StandsFor, WritesNothing, WhereBothTold, read};
+ghost use Rattle.dkv_io.specs.Causes.{HasCause, Rose};
+ghost use Rattle.dkv_io.specs.Disks.{LeavesOnly, AtRest};
+ghost use Rattle.dkv_journal.specs.declared.gates.TheConstants.{OPEN_GATE};
+ghost use Rattle.dkv_journal.specs.Crashes.{WhereTold};
+ghost use Rattle.dkv_files.specs.Crashes.{CreateMoves, StandsFor, WholeLeaves, WritesNothing, WhereBothTold, read};
 ghost use Rattle.dkv_files.specs.Creating.{IsSomeOpen, IsUncreated, new_identity};
+ghost use Rattle.dkv_files.specs.Filling.{behind_gate};
 ghost use Rattle.dkv_files.specs.declared.creating.CreateRefusal.TheVariants as refusal;
 
-use crate::files::write_file;
 use crate::head::spell_new;
 use crate::pair::Pair;
 use crate::rest::is_one_open;
-use dkv_io::Disk;
+use crate::whole::write_spelled;
+use dkv_io::{Disk, Failed};
+use dkv_queue::Queue;
+use dkv_table::Blocks;
 use std::alloc::Global;
 use thiserror::Error;
 
@@ -29,7 +35,7 @@ pub enum CreateRefusal {
 }
 
 /// Makes the empty database of this identity in two files of which none is open. It syncs both and looks at their gates before it
-/// writes file a. A crash leaves what was there, no database, or the empty one. Takes memory for 112 bytes, before anything is
+/// writes file a. A crash leaves what was there, no database, or the empty one. Takes memory for 95 bytes, before anything is
 /// written.
 pub fn create<D: Disk>(
     alloc: Global,
@@ -59,11 +65,29 @@ pub fn create<D: Disk>(
         Ok(true) => return Err(CreateRefusal::Exists),
         Err(_) => return Err(CreateRefusal::DiskFault),
     }
-    let Ok(bytes) = spell_new(alloc, id, secret) else {
+    let Ok(front) = spell_new(alloc, id, secret) else {
         return Err(CreateRefusal::NoMemory);
     };
-    match write_file(&mut pair.a, &bytes) {
+    match write_new(alloc, &mut pair.a, &front) {
         Ok(()) => Ok(()),
         Err(_) => Err(CreateRefusal::DiskFault),
+    }
+}
+
+// Writes a whole file of no entry and no message behind a header that is spelled. Takes no memory.
+fn write_new<D: Disk>(alloc: Global, disk: &mut D, front: &[u8]) -> Result<(), Failed>
+    requires { length front.now ≡ 95 }
+    ensures leaves { WhereTold (D.seen disk.old) (λ _. LeavesOnly
+        D.moment D.left_since disk.old disk.new (WholeLeaves (D.may_leave disk.old)
+        (OPEN_GATE ∷ behind_gate front.now [] []))) }
+    ensures done { WhereTold (D.seen disk.old) (λ _. OnOk result (AtRest
+        (D.seen disk.new) (D.may_leave disk.new) (OPEN_GATE ∷ behind_gate front.now [] []))) }
+    ensures cause { HasCause (D.faults disk.old) (D.faults disk.new) result }
+{
+    let table = Blocks::new(alloc);
+    let queue = Queue::new(alloc);
+    match write_spelled(alloc, disk, front, &table, &queue) {
+        Ok(_) => Ok(()),
+        Err(_) => Err(Failed),
     }
 }

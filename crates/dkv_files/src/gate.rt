@@ -1,9 +1,10 @@
 // The gate of a file: whether it is open, and how it is opened.
 ghost use Rattle.std.specs.Prelude.{◌≡◌, ◌<◌, length, OnOk, IfOk};
 ghost use Rattle.dkv_io.specs.Causes.{HasCause};
-ghost use Rattle.dkv_io.specs.Disks.{LeavesOnly, AtRest};
+ghost use Rattle.dkv_io.specs.Disks.{LeavesOnly, AtRest, Told, AnyBytes};
+ghost use Rattle.dkv_image_io.specs.Reading.{OnlyReads};
 ghost use Rattle.dkv_journal.specs.Crashes.{WhereTold};
-ghost use Rattle.dkv_files.specs.Crashes.{GateLeaves, OnlyReads};
+ghost use Rattle.dkv_files.specs.Crashes.{GateLeaves};
 ghost use Rattle.dkv_files.specs.Files.{with_open_gate, is_open as is_open_file};
 
 use dkv_io::{Disk, Failed};
@@ -31,6 +32,7 @@ pub fn open_gate<D: Disk>(disk: &mut D) -> Result<(), Failed>
         D.moment D.left_since disk.old disk.new (GateLeaves file)) }
     ensures done { WhereTold (D.seen disk.old) (λ file. OnOk result (AtRest
         (D.seen disk.new) (D.may_leave disk.new) (with_open_gate file))) }
+    ensures told { Told AnyBytes (D.seen disk.old) (D.seen disk.new) }
     ensures cause { HasCause (D.faults disk.old) (D.faults disk.new) result }
 {
     set_gate(disk, 0, OPEN_GATE)

@@ -1,12 +1,10 @@
 // The header of a file, as it is written.
-ghost use Rattle.std.specs.Prelude.{◌≡◌, ◌∷◌, [], length, IfOk};
-ghost use Rattle.dkv_journal.specs.declared.gates.TheConstants.{CLOSED_GATE};
+ghost use Rattle.std.specs.Prelude.{◌≡◌, length, IfOk};
 ghost use Rattle.dkv_journal.specs.Records.{first_layout};
-ghost use Rattle.dkv_files.specs.Files.{head_bytes, filled};
+ghost use Rattle.dkv_files.specs.Files.{head_bytes};
 ghost use Rattle.dkv_files.specs.Creating.{new_head};
 
 use dkv_base::NoMemory;
-use dkv_journal::CLOSED_GATE;
 use std::alloc::Global;
 
 /// What a header tells beside the layout and the image's length.
@@ -27,7 +25,9 @@ pub struct FileHead {
 /// The header of a file of the first format, for an image of so many bytes: its 95 bytes behind the file's gate. Takes memory for
 /// them.
 pub fn spell_head(alloc: Global, head: FileHead, image: u64) -> Result<Vec<u8>, NoMemory>
-    ensures { IfOk result (λ v. v.items ≡ head_bytes first_layout head image) }
+    ensures spelled { IfOk result (λ v. v.items ≡ head_bytes first_layout head image) }
+    ensures id { length head.id ≡ 16 }
+    ensures secret { length head.secret ≡ 32 }
 {
     let mut bytes = Vec::new(alloc);
     bytes.extend_from_slice(b"DKVFILE")?;
@@ -41,10 +41,11 @@ pub fn spell_head(alloc: Global, head: FileHead, image: u64) -> Result<Vec<u8>, 
     Ok(bytes)
 }
 
-// What stands behind the gate of a new file: the header, the empty image and a closed gate.
+// The header of a new file, with the empty image.
 pub(crate) fn spell_new(alloc: Global, id: [u8; 16], secret: [u8; 32]) -> Result<Vec<u8>, NoMemory>
-    ensures spelled { IfOk result (λ v. CLOSED_GATE ∷ v.items
-        ≡ filled first_layout (new_head id secret) [] []) }
+    ensures spelled { IfOk result (λ v. v.items
+        ≡ head_bytes first_layout (new_head id secret) 16) }
+    ensures long { IfOk result (λ v. length v.items ≡ 95) }
     ensures id { length id ≡ 16 }
     ensures secret { length secret ≡ 32 }
 {
@@ -55,8 +56,5 @@ pub(crate) fn spell_new(alloc: Global, id: [u8; 16], secret: [u8; 32]) -> Result
         n: 0,
         now: 0,
     };
-    let mut bytes = spell_head(alloc, head, 16)?;
-    bytes.extend_from_slice(&[0; 16])?;
-    bytes.extend_from_slice(&[CLOSED_GATE])?;
-    Ok(bytes)
+    spell_head(alloc, head, 16)
 }

@@ -4,8 +4,8 @@ ghost use Rattle.std.specs.Int.{w32, w64};
 ghost use Rattle.std.specs.List.{list_all};
 ghost use Rattle.dkv_base.specs.Profiles.{known_first};
 ghost use Rattle.dkv_io.specs.Causes.{HasCause};
+ghost use Rattle.dkv_image_io.specs.Reading.{OnlyReads};
 ghost use Rattle.dkv_journal.specs.Crashes.{WhereTold};
-ghost use Rattle.dkv_files.specs.Crashes.{OnlyReads};
 ghost use Rattle.dkv_files.specs.Files.{number_in, number_fault as number_fault_of, head_of};
 ghost use Rattle.dkv_files.specs.Reading.{IsHeadState, IsNewOrCut};
 

@@ -2,6 +2,7 @@
 ghost use Rattle.dkv_base.specs.Profiles.{known_first};
 ghost use Rattle.dkv_msgs.specs.Readings.{reads_atomic_write};
 ghost use Rattle.dkv_files.specs.Laws.{FileIsRead, FirstIsUsed, SecondIsUsed};
+ghost use Rattle.dkv_files.specs.Renewing.{WholeRests};
 
 /// A written file stands, and is read as what it was written of, whatever follows it.
 pub fn files_are_read()
@@ -12,4 +13,9 @@ pub fn files_are_read()
 pub fn newer_is_used()
     ensures first { FirstIsUsed known_first reads_atomic_write }
     ensures second { SecondIsUsed known_first reads_atomic_write }
+{}
+
+/// A whole file is read as its image without a record, and its first gate is its last.
+pub fn whole_files_rest()
+    ensures { WholeRests }
 {}

@@ -1,8 +1,14 @@
-// A new file byte by byte, a fault in each disk call of a create, and headers that don't stand.
-ghost use Rattle.std.specs.Prelude.{◌<◌, ◌^◌, length};
+// Files byte by byte, a fault in each disk call that writes one, and headers that don't stand.
+ghost use Rattle.std.specs.Prelude.{◌≡◌, ◌<◌, ◌^◌, ◌∷◌, [], pos, length, IfOk};
 
-use crate::{CreateRefusal, HeadState, Pair, create, is_new, read_head};
+use crate::{
+    CheckpointRefusal, CreateRefusal, FileHead, HeadState, Pair, create, is_new, read_head, renew,
+    write_whole,
+};
+use dkv_base::{Bytes, Entry, NoMemory};
 use dkv_io::MemoryDisk;
+use dkv_queue::Queue;
+use dkv_table::{Blocks, Table};
 use std::alloc::{AllocError, Global};
 use std::test::Fail;
 
@@ -78,9 +84,11 @@ fn a_fault_in_each_disk_call_leaves_no_database_or_the_new_one(
         (4, 0, (0, 0)),
         (5, 1, (0, 0)),
         (6, 1, (0, 0)),
-        (7, 113, (0, 0)),
-        (8, 113, (0, 0)),
-        (9, 113, (1, 17)),
+        (7, 96, (0, 0)),
+        (8, 112, (0, 0)),
+        (9, 113, (0, 0)),
+        (10, 113, (0, 0)),
+        (11, 113, (1, 17)),
     ];
     for (call, len, want) in rows {
         let a = disk(rt.alloc(), file(rt.alloc(), 1)?, &[call])?;
@@ -127,5 +135,127 @@ fn a_file_goes_on_as_a_new_one_or_is_cut(rt: HostRuntime) -> Result<(), Fail> {
     }
     let mut other = disk(rt.alloc(), spoilt(rt.alloc(), 111, 1)?, &[])?;
     assert!(rt; is_new(&mut other) == Ok(Some(false)));
+    Ok(())
+}
+
+// ---- a file of 142 bytes, of an image of one entry
+
+const ENTRY: &[u8] = b"\x01\x00\x00\x00\x00\x00\x00\x00\
+    \x03\x00\x00\x00\x02a\x00\x03\x01\x00\x00\x00x\
+    \x01\x00\x00\x00\x00\x00\x00\x00\x00\x00\x00\x00\x00\x00\x00\x00\
+    \x00\x00\x00\x00\x00\x00\x00\x00";
+
+// The file of generation 2, after commit 1 at the moment 5.
+fn image_file(alloc: Global) -> Result<Vec<u8>, AllocError> {
+    let mut bytes = FRONT.to_vec(alloc)?;
+    bytes.resize(96, 0)?;
+    bytes.extend_from_slice(ENTRY)?;
+    bytes.extend_from_slice(&[0])?;
+    if bytes.len() == 142 {
+        bytes[16] = 2;
+        bytes[72] = 45;
+        bytes[80] = 1;
+        bytes[88] = 5;
+    }
+    Ok(bytes)
+}
+
+// The entry `x` under the key 02 61 00, made by commit 1 and never ended.
+fn one_entry(alloc: Global) -> Result<Blocks, NoMemory>
+    ensures { IfOk result (λ t. ⟦<Blocks as Table>⟧.content t ≡ record {
+      key = 2 ∷ 97 ∷ 0 ∷ [];
+      bytes = 120 ∷ [];
+      encoding = pos 3;
+      commit = 1;
+      expire = 0;
+    } ∷ []) }
+{
+    let mut table = Blocks::new(alloc);
+    table.reserve(1)?;
+    let _none = table.put(Entry {
+        key: Bytes::copy_of(alloc, &[2, 97, 0])?,
+        bytes: Bytes::copy_of(alloc, &[120])?,
+        encoding: 3,
+        commit: 1,
+        expire: 0,
+    });
+    Ok(table)
+}
+
+// Writes the file on a disk, and the place that is given; 1 for a fault and 2 for want of memory.
+fn whole(alloc: Global, disk: &mut MemoryDisk) -> u64 {
+    let Ok(table) = one_entry(alloc) else {
+        return 2;
+    };
+    let queue = Queue::new(alloc);
+    let head = FileHead {
+        generation: 2,
+        id: ID,
+        secret: [0; 32],
+        n: 1,
+        now: 5,
+    };
+    match write_whole(alloc, disk, &head, &table, &queue) {
+        Ok(place) => place,
+        Err(CheckpointRefusal::DiskFault) => 1,
+        Err(CheckpointRefusal::NoMemory) => 2,
+    }
+}
+
+// The disk call that fails or is none: four of the clear, four of the fill, and two of the opening of the gate. Then the answer, how long
+// the file is then, and how its header stands: it had two bytes before.
+#[test]
+fn a_fault_in_each_disk_call_leaves_no_file_or_the_whole_one(rt: HostRuntime) -> Result<(), Fail> {
+    let rows = [
+        (0, 1, 2, (0, 0)),
+        (1, 1, 0, (0, 0)),
+        (2, 1, 0, (0, 0)),
+        (3, 1, 1, (0, 0)),
+        (4, 1, 1, (0, 0)),
+        (5, 1, 96, (0, 0)),
+        (6, 1, 141, (0, 0)),
+        (7, 1, 142, (0, 0)),
+        (8, 1, 142, (0, 0)),
+        (9, 1, 142, (1, 47)),
+        (99, 141, 142, (1, 47)),
+    ];
+    for (call, answer, len, want) in rows {
+        let mut disk = disk(rt.alloc(), file(rt.alloc(), 2)?, &[call])?;
+        assert_eq!(rt; whole(rt.alloc(), &mut disk), answer);
+        assert_eq!(rt; disk.bytes().len(), len);
+        assert_eq!(rt; standing(&mut disk), want);
+    }
+    Ok(())
+}
+
+// Writes the file on the second disk of a pair, and the place that is given; 1 for a refusal.
+fn renewed(alloc: Global, pair: &mut Pair<MemoryDisk>) -> u64 {
+    let Ok(table) = one_entry(alloc) else {
+        return 1;
+    };
+    let queue = Queue::new(alloc);
+    let head = FileHead {
+        generation: 2,
+        id: ID,
+        secret: [0; 32],
+        n: 1,
+        now: 5,
+    };
+    match renew(alloc, pair, true, &head, &table, &queue) {
+        Ok(place) => place,
+        Err(_) => 1,
+    }
+}
+
+#[test]
+fn the_file_that_is_not_used_is_written_byte_by_byte(rt: HostRuntime) -> Result<(), Fail> {
+    let a = disk(rt.alloc(), file(rt.alloc(), 113)?, &[])?;
+    let b = disk(rt.alloc(), file(rt.alloc(), 113)?, &[])?;
+    let mut pair = Pair { a, b };
+    assert_eq!(rt; renewed(rt.alloc(), &mut pair), 141);
+    let used = file(rt.alloc(), 113)?;
+    assert_eq!(rt; pair.a.bytes(), used.as_slice());
+    let want = image_file(rt.alloc())?;
+    assert_eq!(rt; pair.b.bytes(), want.as_slice());
     Ok(())
 }

@@ -12,3 +12,4 @@ pub mod Follows
 pub mod EntryShares
 pub mod MessageShares
 pub mod Composing
+mod Empty

@@ -187,7 +187,7 @@ fn a_damaged_file_is_refused_at_its_place(rt: HostRuntime) -> Result<(), Fail> {
 }
 
 // A call of file a that fails while a database is made, and what `check` ends with then.
-const CREATE_FAULTS: [(u64, u8); 10] = [
+const CREATE_FAULTS: [(u64, u8); 12] = [
     (0, 6),
     (1, 6),
     (2, 6),
@@ -197,7 +197,9 @@ const CREATE_FAULTS: [(u64, u8); 10] = [
     (6, 6),
     (7, 6),
     (8, 6),
-    (9, 0),
+    (9, 6),
+    (10, 6),
+    (11, 0),
 ];
 
 #[test]

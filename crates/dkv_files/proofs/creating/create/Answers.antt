@@ -9,6 +9,8 @@ use Rattle.dkv_base.specs.Profiles.{known_first}
 use Rattle.dkv_files.specs.Crashes.{Identity, CreateLeaves, CreateMoves, WritesNothing, WholeLeaves, read}
 use Rattle.dkv_files.specs.Creating.{new_head, new_identity}
 use Rattle.dkv_files.specs.Files.{is_open, filled}
+use Rattle.dkv_files.specs.Filling.{behind_gate}
+use Rattle.dkv_files.proofs.Filled.{new_filled}
 use Rattle.dkv_files.proofs.Fresh.{is_new}
 use Rattle.dkv_files.proofs.Resting.{moves_of}
 use Rattle.dkv_files.proofs.Used.{neither}
@@ -25,7 +27,7 @@ module _ (id secret fa fb bytes : List ℕ) (long_id : length id ≡ 16) (long_s
       → CreateLeaves a_start b_start read (new_identity id secret) x y
   leaves a_start b_start a_rests now_a now_b only x y (inl was) other = inl (subst a_start (sym (only x was)) now_a, subst b_start (sym other) now_b)
   leaves a_start b_start a_rests now_a now_b only x y (inr (inl shut_x)) other = inr (inl (neither known_first reads_atomic_write x y shut_x (ap is_open other ∙ shut)))
-  leaves a_start b_start a_rests now_a now_b only x y (inr (inr whole)) other = inr (inr (is_new id secret long_id long_secret bytes x y spelled whole (ap is_open other ∙ shut)))
+  leaves a_start b_start a_rests now_a now_b only x y (inr (inr whole)) other = inr (inr (is_new id secret long_id long_secret bytes x y spelled whole.0 (ap is_open other ∙ shut)))
 
   -- both brought to rest, and file a written
   written : {D : Type 0} (images : D → List ℕ → Type 0) (moment : D → ℕ) (since : D → ℕ → List ℕ → Type 0) → ((d : D) (t : ℕ) (x : List ℕ) → t ≤ moment d → images d x → since d t x)
@@ -55,33 +57,36 @@ pub returns-in_default-clause-moves : goal.returns-in_default-clause-moves
 returns-in_default-clause-moves g c fa fb told_a told_b =
     nothing g.D.Disk.may_leave g.D.Disk.moment g.D.Disk.left_since (new_identity c.args.id c.args.secret) c.args.pair.now.a c.args.pair.now.b c.is_one_open.new.pair.a c.is_one_open.new.pair.b c.is_one_open.ensures.moves
 
-pub returns-in-Ok-write_file-clause-done : goal.returns-in-Ok-write_file-clause-done
-returns-in-Ok-write_file-clause-done g c fa fb told_a told_b x y now_x now_y =
+pub returns-in-Ok-write_new-clause-done : goal.returns-in-Ok-write_new-clause-done
+returns-in-Ok-write_new-clause-done g c fa fb told_a told_b x y now_x now_y =
     let rest_a = c.in-Ok-false.ensures.rest_a fa told_a in
     let rest_b = c.in-Ok-false.ensures.rest_b fb told_b in
     let shut = none_open (is_open fa) (is_open fb) (sym c.in-Ok-false.field-0-test ∙ c.in-Ok-false.ensures.open fa fb told_a told_b) in
-    let rests = c.in-Ok-write_file.ensures.done fa rest_a.told in
-    is_new c.args.id c.args.secret c.spell_new.ensures.id c.spell_new.ensures.secret c.deref.result.now x y
-    (ap (λ (l : List ℕ). CLOSED_GATE ∷ l) c.deref.ensures.value ∙ c.in-Ok.ensures.spelled) (rests.only x now_x) (ap is_open (rest_b.only y now_y) ∙ shut)
+    let bytes = behind_gate c.deref.result.now [] [] in
+    let spelled = new_filled c.args.id c.args.secret c.deref.result.now c.spell_new.ensures.id c.spell_new.ensures.secret (c.deref.ensures.value ∙ c.in-Ok.ensures.spelled) in
+    let rests = c.in-Ok-write_new.ensures.done fa rest_a.told in
+    is_new c.args.id c.args.secret c.spell_new.ensures.id c.spell_new.ensures.secret bytes x y spelled (rests.only x now_x) (ap is_open (rest_b.only y now_y) ∙ shut)
 
-pub returns-in-Ok-write_file-clause-moves : goal.returns-in-Ok-write_file-clause-moves
-returns-in-Ok-write_file-clause-moves g c fa fb told_a told_b =
+pub returns-in-Ok-write_new-clause-moves : goal.returns-in-Ok-write_new-clause-moves
+returns-in-Ok-write_new-clause-moves g c fa fb told_a told_b =
     let rest_a = c.in-Ok-false.ensures.rest_a fa told_a in
     let rest_b = c.in-Ok-false.ensures.rest_b fb told_b in
     let shut = none_open (is_open fa) (is_open fb) (sym c.in-Ok-false.field-0-test ∙ c.in-Ok-false.ensures.open fa fb told_a told_b) in
-    let spelled = ap (λ (l : List ℕ). CLOSED_GATE ∷ l) c.deref.ensures.value ∙ c.in-Ok.ensures.spelled in
+    let bytes = behind_gate c.deref.result.now [] [] in
+    let spelled = new_filled c.args.id c.args.secret c.deref.result.now c.spell_new.ensures.id c.spell_new.ensures.secret (c.deref.ensures.value ∙ c.in-Ok.ensures.spelled) in
     let start = c.args.pair.now in
-    written c.args.id c.args.secret fa fb c.deref.result.now c.spell_new.ensures.id c.spell_new.ensures.secret spelled shut
-    g.D.Disk.may_leave g.D.Disk.moment g.D.Disk.left_since g.met.D.Disk.counts_now start.a start.b c.is_one_open.new.pair.a c.is_one_open.new.pair.b c.write_file.new.disk
-    (g.met.D.Disk.reads_as start.a fa told_a) (g.met.D.Disk.reads_as start.b fb told_b) rest_a.only rest_b.only c.is_one_open.ensures.moves (c.write_file.ensures.leaves fa rest_a.told)
+    written c.args.id c.args.secret fa fb bytes c.spell_new.ensures.id c.spell_new.ensures.secret spelled shut
+    g.D.Disk.may_leave g.D.Disk.moment g.D.Disk.left_since g.met.D.Disk.counts_now start.a start.b c.is_one_open.new.pair.a c.is_one_open.new.pair.b c.write_new.new.disk
+    (g.met.D.Disk.reads_as start.a fa told_a) (g.met.D.Disk.reads_as start.b fb told_b) rest_a.only rest_b.only c.is_one_open.ensures.moves (c.write_new.ensures.leaves fa rest_a.told)
 
 pub returns-clause-moves : goal.returns-clause-moves
 returns-clause-moves g c fa fb told_a told_b =
     let rest_a = c.in-Ok-false.ensures.rest_a fa told_a in
     let rest_b = c.in-Ok-false.ensures.rest_b fb told_b in
     let shut = none_open (is_open fa) (is_open fb) (sym c.in-Ok-false.field-0-test ∙ c.in-Ok-false.ensures.open fa fb told_a told_b) in
-    let spelled = ap (λ (l : List ℕ). CLOSED_GATE ∷ l) c.deref.ensures.value ∙ c.in-Ok.ensures.spelled in
+    let bytes = behind_gate c.deref.result.now [] [] in
+    let spelled = new_filled c.args.id c.args.secret c.deref.result.now c.spell_new.ensures.id c.spell_new.ensures.secret (c.deref.ensures.value ∙ c.in-Ok.ensures.spelled) in
     let start = c.args.pair.now in
-    written c.args.id c.args.secret fa fb c.deref.result.now c.spell_new.ensures.id c.spell_new.ensures.secret spelled shut
-    g.D.Disk.may_leave g.D.Disk.moment g.D.Disk.left_since g.met.D.Disk.counts_now start.a start.b c.is_one_open.new.pair.a c.is_one_open.new.pair.b c.write_file.new.disk
-    (g.met.D.Disk.reads_as start.a fa told_a) (g.met.D.Disk.reads_as start.b fb told_b) rest_a.only rest_b.only c.is_one_open.ensures.moves (c.write_file.ensures.leaves fa rest_a.told)
+    written c.args.id c.args.secret fa fb bytes c.spell_new.ensures.id c.spell_new.ensures.secret spelled shut
+    g.D.Disk.may_leave g.D.Disk.moment g.D.Disk.left_since g.met.D.Disk.counts_now start.a start.b c.is_one_open.new.pair.a c.is_one_open.new.pair.b c.write_new.new.disk
+    (g.met.D.Disk.reads_as start.a fa told_a) (g.met.D.Disk.reads_as start.b fb told_b) rest_a.only rest_b.only c.is_one_open.ensures.moves (c.write_new.ensures.leaves fa rest_a.told)
