@@ -1,0 +1,4 @@
+mod Following
+mod KeyParts
+pub mod Short
+pub mod Whole
