@@ -1,4 +1,4 @@
 mod Following
-mod KeyParts
+mod KeySizes
 pub mod Short
 pub mod Whole

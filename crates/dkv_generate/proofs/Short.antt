@@ -8,7 +8,7 @@ use Rattle.dkv_generate.specs.Frames.{IsShort}
 use Rattle.dkv_generate.specs.Keys.{item_key, sum_key}
 use Rattle.dkv_generate.specs.Numbers.{numbers_after}
 use Rattle.dkv_generate.specs.Steps.{mutation, message, entry, handled, item_step, sum_step, message_step}
-use Rattle.dkv_generate.proofs.KeyParts.{item_key_size, sum_key_size}
+use Rattle.dkv_generate.proofs.KeySizes.{item_key_size, sum_key_size}
 use Rattle.dkv_generate.proofs.Following.{numbers_size}
 
 -- one behind the other

@@ -17,6 +17,7 @@ abbrev pub settlement_kind : Bool → ℕ
 settlement_kind true = ACKNOWLEDGE
 settlement_kind false = FAIL
 
+-- the code of what is asked
 abbrev pub kind_of : Ask → ℕ
 kind_of (ask.Read ranges) = READ
 kind_of (ask.Write w) = WRITE

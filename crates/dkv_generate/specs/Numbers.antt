@@ -3,7 +3,7 @@
 --     numbers_after k x      the k numbers that follow x, in bytes
 use Rattle.std.specs.Prelude.{ℕ, zero, suc, ◌+◌, ◌*◌, ◌%◌, ◌^◌, List, [], ◌++◌}
 use Rattle.std.specs.Int.{w64, to_le_bytes}
-use Rattle.dkv_generate.specs.declared.numbers.TheConstants.{MULTIPLIER, INCREMENT}
+use Rattle.dkv_generate.specs.declared.sizes.TheConstants.{MULTIPLIER, INCREMENT}
 
 -- the number that follows
 abbrev pub next : ℕ → ℕ

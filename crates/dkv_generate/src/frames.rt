@@ -53,7 +53,7 @@ fn head(len: u32, caller: u32, moment: u64, kind: u8) -> [u8; 17]
 }
 
 /// Appends the frame of a step. Takes memory for its body, and where the bytes have no room for it.
-pub fn put_frame(alloc: Global, out: &mut Vec<u8>, step: Step) -> Result<(), NoMemory>
+pub(crate) fn put_frame(alloc: Global, out: &mut Vec<u8>, step: Step) -> Result<(), NoMemory>
     requires { IsShort step.ask }
     ensures { OnOk result (out.new.items ≡ out.old.items ++ frame_bytes step) }
 {

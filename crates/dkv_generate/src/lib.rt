@@ -13,8 +13,6 @@ mod numbers;
 pub mod sizes;
 mod writing;
 
-pub use frames::put_frame;
-pub use numbers::{INCREMENT, MULTIPLIER, Numbers};
 pub use writing::{GenerateEnd, generate};
 
 #[cfg(test)]

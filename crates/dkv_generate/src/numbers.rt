@@ -2,18 +2,13 @@
 ghost use Rattle.std.specs.Prelude.{◌≡◌, IfOk, OnOk};
 ghost use Rattle.dkv_generate.specs.Numbers.{next, number_after, numbers_after};
 
+use crate::sizes::{INCREMENT, MULTIPLIER};
 use dkv_base::{Bytes, NoMemory};
 use std::alloc::Global;
 
-/// What a number is multiplied by for the one that follows (Knuth, The Art of Computer Programming, 3.3.4, table 1).
-pub const MULTIPLIER: u64 = 6_364_136_223_846_793_005;
-
-/// What is then added.
-pub const INCREMENT: u64 = 1_442_695_040_888_963_407;
-
 /// The numbers that follow from one, by a linear congruence modulo 2^64.
 #[derive(Clone, Copy, Debug)]
-pub struct Numbers {
+pub(crate) struct Numbers {
     /// The number that was taken last, or the one that they all follow from.
     pub last: u64,
 }
@@ -28,7 +23,7 @@ impl Numbers {
     }
 
     /// The next so many numbers, each in eight bytes, least first. Takes memory for them.
-    pub fn take(&mut self, alloc: Global, count: usize) -> Result<Bytes, NoMemory>
+    pub(crate) fn take(&mut self, alloc: Global, count: usize) -> Result<Bytes, NoMemory>
         ensures bytes { IfOk result (λ bytes. bytes ≡ numbers_after count self.old.last) }
         ensures last { OnOk result (self.new.last ≡ number_after count self.old.last) }
     {

@@ -15,6 +15,12 @@ pub const ITEMS: u64 = 1000;
 /// The keys of which each holds a sum.
 pub const SUMS: u64 = 10;
 
+/// What a number is multiplied by for the one that follows (Knuth, The Art of Computer Programming, 3.3.4, table 1).
+pub const MULTIPLIER: u64 = 6_364_136_223_846_793_005;
+
+/// What is then added.
+pub const INCREMENT: u64 = 1_442_695_040_888_963_407;
+
 /// The numbers of a value, of eight bytes each.
 pub const VALUE_NUMBERS: usize = 8;
 
