@@ -1,0 +1,4 @@
+mod Following
+mod KeySizes
+pub mod Short
+pub mod Whole
