@@ -1,0 +1,5 @@
+pub mod Links
+pub mod Paces
+pub mod Inputs
+pub mod MemoryLinks
+pub mod Roles
