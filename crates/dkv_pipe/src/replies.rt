@@ -86,11 +86,7 @@ fn both_numbers(first: u64, second: u64) -> [u8; 16]
 fn full(alloc: Global, trail_bytes: u64, limit: u64) -> Reply
     ensures { result ≡ bytes_of_reply (full trail_bytes limit) }
 {
-    short(
-        alloc,
-        ReplyStatus::Full,
-        &both_numbers(trail_bytes, limit),
-    )
+    short(alloc, ReplyStatus::Full, &both_numbers(trail_bytes, limit))
 }
 
 /// The reply that tells what a commit of a write, or else of a settlement, came to. Takes memory

@@ -90,7 +90,7 @@ module _ (fa : List ℕ) (head : FileHead) (core : Database) (journal : Journal)
       let gate : first_gate fa ≡ first_place = gate_is fa held.opened held.stands held.long held.image held.new in
       let at : last_gate fa ≡ journal.place = rests.rests.gate in
       let from : first_place ≤ journal.place = subst (λ (p : ℕ). first_place ≤ p) (sym held.place)
-          (subst (λ (p : ℕ). first_place ≤ p) (sym (scan_place first_layout first_place fa)) (not_before first_layout first_place (scanned_at first_layout first_place fa).bodies)) in
+      (subst (λ (p : ℕ). first_place ≤ p) (sym (scan_place first_layout first_place fa)) (not_before first_layout first_place (scanned_at first_layout first_place fa).bodies)) in
       let one : last_gate fa ≡ first_gate fa + n = omega (arith, gate, at, from, is) in
       subst (λ (x : List ℕ). last_gate x ≡ first_gate x + n) (sym used) one
 

@@ -130,7 +130,9 @@ impl<D: Disk> Store<D> {
             return Err(Refusal::DiskFault);
         }
         let n = self.core.apply(prepared);
-        self.record_bytes = self.record_bytes.saturating_add(record_size(&commit, weight));
+        self.record_bytes = self
+            .record_bytes
+            .saturating_add(record_size(&commit, weight));
         self.trail.add_made(commit, weight);
         Ok(Done::Committed { n })
     }

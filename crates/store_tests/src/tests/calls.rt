@@ -124,7 +124,12 @@ fn copy_of(alloc: Global, call: &Call) -> Result<Call, NoMemory>
 }
 
 // What a commit came to: its number, or 0 for another answer; and a disk's fault, or want of memory.
-pub(crate) fn commit(store: &mut Store<Quiet>, alloc: Global, at: u64, call: Call) -> Result<u64, Refusal> {
+pub(crate) fn commit(
+    store: &mut Store<Quiet>,
+    alloc: Global,
+    at: u64,
+    call: Call,
+) -> Result<u64, Refusal> {
     let may = store.may_ask(&call) && store.number() < 1_000;
     if !may || !is_short(alloc, 1, store.moment(at), &call) {
         return Ok(0);
