@@ -82,7 +82,7 @@ module _ {S K R D : Type 0}
   }
   idle (command.Pipe (Some f) t) source sink random None has = none_there (has tt)
   idle (command.Pipe None t) source sink random p has = record {
-    pipes = nothing_ran status.NoMemory (streams (left source) (ended source) (held sink)) _ _ refl;
+    pipes = nothing_ran status.NoMemory t (streams (left source) (ended source) (held sink)) _ _ refl;
     unused = refl;
     undrawn = refl;
   }

@@ -4,7 +4,6 @@ use Rattle.dkv_base.specs.declared.types.Commit.{Commit}
 use Rattle.dkv_base.specs.State.{State}
 use Rattle.dkv_base.specs.Steps.{opened}
 use Rattle.dkv_base.specs.Trails.{commits}
-use Rattle.dkv_core.specs.Runs.{no_limit}
 use Rattle.dkv_io.specs.Disks.{Moves, EachPair, PairImages, stays, a_moves, b_moves}
 use Rattle.dkv_io.proofs.Moves.{joined, weaker}
 use Rattle.dkv_io.proofs.Seen.{still_told}
@@ -25,9 +24,9 @@ use Rattle.dkv_app.specs.Statuses.{told}
 use Rattle.dkv_app.proofs.Piped.{completes_more, rose_earlier}
 
 -- a term begins on a store that was opened
-pub begins_term : {D : Type 0} (images : D → List ℕ → Type 0) (fa fb : List ℕ) (s : Contents D)
-    → IsOpened images fa fb s → s.core.greatest ≡ s.base.moment → situation_of s ≡ opened s.base no_limit
-begins_term images fa fb s is late =
+pub begins_term : {D : Type 0} (images : D → List ℕ → Type 0) (limit : ℕ) (fa fb : List ℕ) (s : Contents D)
+    → IsOpened images fa fb s → s.core.greatest ≡ s.base.moment → s.limit ≡ limit → situation_of s ≡ opened s.base limit
+begins_term images limit fa fb s is late under =
     let state = is.state in let out = is.out_none in let trail = is.trail in cc
 
 module _ {D : Type 0} (images : D → List ℕ → Type 0) (moment : D → ℕ) (since : D → ℕ → List ℕ → Type 0) where
@@ -65,7 +64,7 @@ module _ {D : Type 0} (images : D → List ℕ → Type 0) (moment : D → ℕ) 
         stand of_a.file of_b.file of_a.seen of_b.seen
 
 module _ {D : Type 0} (seen : D → Option (List ℕ)) (images : D → List ℕ → Type 0) (faults moment : D → ℕ) (since : D → ℕ → List ℕ → Type 0)
-    (s : Status) (e : PipeEnd) (before after : Streams) (read_rose write_rose : Type 0) (a b : D) (first last : Contents D) where
+    (s : Status) (limit : ℕ) (e : PipeEnd) (before after : Streams) (read_rose write_rose : Type 0) (a b : D) (first last : Contents D) where
   -- one of the two counts rose in the run
   abbrev pub RunRose : Type 0
   RunRose = Rose (faults first.a) (faults last.a) ⊎ Rose (faults first.b) (faults last.b)
@@ -76,13 +75,13 @@ module _ {D : Type 0} (seen : D → Option (List ℕ)) (images : D → List ℕ 
   rose_since later (inr rose) = inr (rose_earlier (faults b) (faults first.b) (faults last.b) later.1 rose)
 
   -- two files were opened, and then it ran over them
-  over_last : s ≡ told e → WhereBothTold (seen a) (seen b) (λ fa fb. IsOpened images fa fb first) → first.core.greatest ≡ first.base.moment → first.core.state.number < 2 ^ 62
+  over_last : s ≡ told e → WhereBothTold (seen a) (seen b) (λ fa fb. IsOpened images fa fb first) → first.core.greatest ≡ first.base.moment → first.limit ≡ limit → first.core.state.number < 2 ^ 62
       → (seen first.a ≡ seen a) × (seen first.b ≡ seen b) → (faults a ≤ faults first.a) × (faults b ≤ faults first.b)
       → WritesNothing images moment since a b first.a first.b → RunsTo seen images faults moment since e before after first last
       → HasEndCause e after.ended read_rose write_rose → Completes e (situation_of first) before after read_rose write_rose RunRose
       → FilesStand seen images last
-      → Pipes seen images faults moment since s before after read_rose write_rose a b last.a last.b
-  over_last is opens late low told_as later opening run cause completes stand = record {
+      → Pipes seen images faults moment since s limit before after read_rose write_rose a b last.a last.b
+  over_last is opens late under low told_as later opening run cause completes stand = record {
     how = e;
     first = first;
     last = last;
@@ -91,7 +90,7 @@ module _ {D : Type 0} (seen : D → Option (List ℕ)) (images : D → List ℕ 
         let opened = opens fa fb told_a told_b in
         record {
           opens = opened;
-          begins = begins_term images fa fb first opened late;
+          begins = begins_term images limit fa fb first opened late under;
           unworn = subst (λ (x : State). x.number < 2 ^ 62) opened.state low;
         };
     run = run;
@@ -108,13 +107,13 @@ module _ {D : Type 0} (seen : D → Option (List ℕ)) (images : D → List ℕ 
   }
 
   pub over_pipes : (a_end b_end : D) → a_end ≡ last.a → b_end ≡ last.b
-      → s ≡ told e → WhereBothTold (seen a) (seen b) (λ fa fb. IsOpened images fa fb first) → first.core.greatest ≡ first.base.moment → first.core.state.number < 2 ^ 62
+      → s ≡ told e → WhereBothTold (seen a) (seen b) (λ fa fb. IsOpened images fa fb first) → first.core.greatest ≡ first.base.moment → first.limit ≡ limit → first.core.state.number < 2 ^ 62
       → (seen first.a ≡ seen a) × (seen first.b ≡ seen b) → (faults a ≤ faults first.a) × (faults b ≤ faults first.b)
       → WritesNothing images moment since a b first.a first.b → RunsTo seen images faults moment since e before after first last
       → HasEndCause e after.ended read_rose write_rose → Completes e (situation_of first) before after read_rose write_rose RunRose
       → FilesStand seen images last
-      → Pipes seen images faults moment since s before after read_rose write_rose a b a_end b_end
-  over_pipes a_end b_end is_a is_b is opens late low told_as later opening run cause completes stand =
-      subst (λ (x : D). Pipes seen images faults moment since s before after read_rose write_rose a b x b_end) (sym is_a)
-      (subst (λ (x : D). Pipes seen images faults moment since s before after read_rose write_rose a b last.a x) (sym is_b)
-      (over_last is opens late low told_as later opening run cause completes stand))
+      → Pipes seen images faults moment since s limit before after read_rose write_rose a b a_end b_end
+  over_pipes a_end b_end is_a is_b is opens late under low told_as later opening run cause completes stand =
+      subst (λ (x : D). Pipes seen images faults moment since s limit before after read_rose write_rose a b x b_end) (sym is_a)
+      (subst (λ (x : D). Pipes seen images faults moment since s limit before after read_rose write_rose a b last.a x) (sym is_b)
+      (over_last is opens late under low told_as later opening run cause completes stand))

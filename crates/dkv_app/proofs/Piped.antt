@@ -4,7 +4,6 @@ use Rattle.std.specs.Prelude.{count_by}
 use Rattle.std.proofs.KnownBytes.{Appends-nil, Consumes-nil}
 use Rattle.dkv_base.specs.State.{empty_state}
 use Rattle.dkv_base.specs.Steps.{Situation, opened}
-use Rattle.dkv_core.specs.Runs.{no_limit}
 use Rattle.dkv_io.specs.Causes.{Rose}
 use Rattle.dkv_store.specs.Stores.{Contents, IsFresh}
 use Rattle.dkv_pipe.specs.declared.pipe.PipeEnd.{PipeEnd}
@@ -28,27 +27,27 @@ completes_more e from before after read_rose write_rose P Q so completes =
     λ frames whole read write disk. completes frames whole read write (λ rose. disk (so rose))
 
 -- a new store's situation is that of a new database
-pub starts : {D : Type 0} (a b : D) (s : Contents D) → IsFresh a b s → situation_of s ≡ started
-starts a b s is =
-    let state = is.state in let out = is.out in let trail = is.trail in let late = is.greatest in cc
+pub starts : {D : Type 0} (a b : D) (limit : ℕ) (s : Contents D) → IsFresh a b limit s → situation_of s ≡ started limit
+starts a b limit s is =
+    let under = is.limit in let state = is.state in let out = is.out in let trail = is.trail in let late = is.greatest in cc
 
 -- a run from the situation of a new database, where no disk failed
-pub new_pipes : (s : Status) (e : PipeEnd) (from : Situation) (before after : Streams) (read_rose write_rose disk_rose : Type 0) (course : Course)
-    → from ≡ started → s ≡ told e → Ran e from before after course → count_by (λ mark. mark) course.marks ≡ 0 → HasEndCause e after.ended read_rose write_rose
-    → Completes e from before after read_rose write_rose disk_rose → (disk_rose → ⊥) → PipesNew s before after read_rose write_rose
-new_pipes s e from before after read_rose write_rose disk_rose course new is ran unmarked cause completes no_rise = record {
+pub new_pipes : (s : Status) (limit : ℕ) (e : PipeEnd) (from : Situation) (before after : Streams) (read_rose write_rose disk_rose : Type 0) (course : Course)
+    → from ≡ started limit → s ≡ told e → Ran e from before after course → count_by (λ mark. mark) course.marks ≡ 0 → HasEndCause e after.ended read_rose write_rose
+    → Completes e from before after read_rose write_rose disk_rose → (disk_rose → ⊥) → PipesNew s limit before after read_rose write_rose
+new_pipes s limit e from before after read_rose write_rose disk_rose course new is ran unmarked cause completes no_rise = record {
   how = e;
   status_is = is;
   course = course;
   ran = subst (λ (x : Situation). Ran e x before after course) new ran;
   unmarked = unmarked;
   cause = cause;
-  complete = completes_more e started before after read_rose write_rose disk_rose ⊥ no_rise (subst (λ (x : Situation). Completes e x before after read_rose write_rose disk_rose) new completes);
+  complete = completes_more e (started limit) before after read_rose write_rose disk_rose ⊥ no_rise (subst (λ (x : Situation). Completes e x before after read_rose write_rose disk_rose) new completes);
 }
 
 -- nothing was read
-pub nothing_ran : (s : Status) (at : Streams) (read_rose write_rose : Type 0) → s ≡ status.NoMemory → PipesNew s at at read_rose write_rose
-nothing_ran s at read_rose write_rose is = record {
+pub nothing_ran : (s : Status) (limit : ℕ) (at : Streams) (read_rose write_rose : Type 0) → s ≡ status.NoMemory → PipesNew s limit at at read_rose write_rose
+nothing_ran s limit at read_rose write_rose is = record {
   how = end.NoMemory;
   status_is = is;
   course = record { frames = []; marks = []; at = 0; out = []; rest = [] };

@@ -1,10 +1,9 @@
 -- What `pipe` does.
---     Pipes .. s before after a b a_end b_end      it ran over two files, from one store to another, and ended so
---     PipesNew s before after      the same over a new database without files
+--     Pipes .. s limit before after a b a_end b_end      it ran over two files under this limit, from one store to another, and ended so
+--     PipesNew s limit before after      the same over a new database without files
 use Rattle.std.specs.Prelude.{ℕ, ◌≡◌, ◌⊎◌, ◌≤◌, ◌<◌, ◌^◌, List, Option, count_by}
 use Rattle.dkv_base.specs.Steps.{opened}
 use Rattle.dkv_base.specs.Trails.{commits}
-use Rattle.dkv_core.specs.Runs.{no_limit}
 use Rattle.dkv_io.specs.Causes.{Rose}
 use Rattle.dkv_io.specs.Disks.{Moves}
 use Rattle.dkv_files.specs.Crashes.{RunLeaves, WhereBothTold, StandsOrDoubtful, read}
@@ -22,23 +21,23 @@ use Rattle.dkv_app.specs.Statuses.{told}
 abbrev pub DisksRose : {D : Type 0} → (D → ℕ) → D → D → D → D → Type 0
 DisksRose faults a b a_end b_end = Rose (faults a) (faults a_end) ⊎ Rose (faults b) (faults b_end)
 
--- a term begins on this store: nothing is out, and the moment is the last commit's
-pub record BeginsTerm {D : Type 0} (images : D → List ℕ → Type 0) (fa fb : List ℕ) (s : Contents D) : Type 0 where
+-- a term under this limit begins on this store: nothing is out, and the moment is the last commit's
+pub record BeginsTerm {D : Type 0} (images : D → List ℕ → Type 0) (limit : ℕ) (fa fb : List ℕ) (s : Contents D) : Type 0 where
   pub opens : IsOpened images fa fb s
-  pub begins : situation_of s ≡ opened s.base no_limit
+  pub begins : situation_of s ≡ opened s.base limit
   pub unworn : s.base.number < 2 ^ 62
 
 -- a run over frames, from the store that was opened on the first two disks to the one that was closed as the last two
 pub record Pipes {D : Type 0} (seen : D → Option (List ℕ)) (images : D → List ℕ → Type 0)
     (faults moment : D → ℕ) (since : D → ℕ → List ℕ → Type 0)
-    (s : Status) (before after : Streams) (read_rose write_rose : Type 0)
+    (s : Status) (limit : ℕ) (before after : Streams) (read_rose write_rose : Type 0)
     (a b a_end b_end : D) : Type 0 where
   pub how : PipeEnd
   pub first : Contents D
   pub last : Contents D
   pub status_is : s ≡ told how
   -- it begins a term on what the two files recover to
-  pub begins : WhereBothTold (seen a) (seen b) (λ fa fb. BeginsTerm images fa fb first)
+  pub begins : WhereBothTold (seen a) (seen b) (λ fa fb. BeginsTerm images limit fa fb first)
   -- what was read, answered and written, and where that led
   pub run : RunsTo seen images faults moment since how before after first last
   pub cause : HasEndCause how after.ended read_rose write_rose
@@ -56,11 +55,11 @@ pub record Pipes {D : Type 0} (seen : D → Option (List ℕ)) (images : D → L
       StandsOrDoubtful read (images a_end) (images b_end) last.core.state last.doubt last.who)
 
 -- the same over the empty database, where no disk fails: no frame has a mark
-pub record PipesNew (s : Status) (before after : Streams) (read_rose write_rose : Type 0) : Type 0 where
+pub record PipesNew (s : Status) (limit : ℕ) (before after : Streams) (read_rose write_rose : Type 0) : Type 0 where
   pub how : PipeEnd
   pub status_is : s ≡ told how
   pub course : Course
-  pub ran : Ran how started before after course
+  pub ran : Ran how (started limit) before after course
   pub unmarked : count_by (λ mark. mark) course.marks ≡ 0
   pub cause : HasEndCause how after.ended read_rose write_rose
-  pub complete : Completes how started before after read_rose write_rose ⊥
+  pub complete : Completes how (started limit) before after read_rose write_rose ⊥

@@ -63,10 +63,10 @@ module _ {S K R D : Type 0}
     pub undrawn : random_end ≡ random
 
   -- `pipe` with a folder: its files are not opened, or it ran over them; nothing is drawn
-  pub record DoesPipe (s : Status) (source source_end : S) (sink sink_end : K) (random random_end : R)
+  pub record DoesPipe (trail : ℕ) (s : Status) (source source_end : S) (sink sink_end : K) (random random_end : R)
       (p q : Pair D) : Type 0 where
     pub pipes : Refuses seen images faults moment since s ((source_end ≡ source) × (sink_end ≡ sink)) p q
-        ⊎ Pipes seen images faults moment since s
+        ⊎ Pipes seen images faults moment since s trail
         (streams (left source) (ended source) (held sink))
         (streams (left source_end) (ended source_end) (held sink_end))
         (Rose (read_faults source) (read_faults source_end)) (Rose (write_faults sink) (write_faults sink_end))
@@ -74,9 +74,9 @@ module _ {S K R D : Type 0}
     pub undrawn : random_end ≡ random
 
   -- `pipe` without a folder: it ran over a new database; no file is used, and nothing is drawn
-  pub record DoesPipeNew (s : Status) (source source_end : S) (sink sink_end : K) (random random_end : R)
+  pub record DoesPipeNew (trail : ℕ) (s : Status) (source source_end : S) (sink sink_end : K) (random random_end : R)
       (files files_end : Option (Pair D)) : Type 0 where
-    pub pipes : PipesNew s
+    pub pipes : PipesNew s trail
         (streams (left source) (ended source) (held sink))
         (streams (left source_end) (ended source_end) (held sink_end))
         (Rose (read_faults source) (read_faults source_end)) (Rose (write_faults sink) (write_faults sink_end))
@@ -90,9 +90,9 @@ module _ {S K R D : Type 0}
   Does (command.Check folder) s source source_end sink sink_end random random_end files files_end =
       WithFiles files files_end (DoesCheck s source source_end sink sink_end random random_end)
   Does (command.Pipe (Some folder) trail) s source source_end sink sink_end random random_end files files_end =
-      WithFiles files files_end (DoesPipe s source source_end sink sink_end random random_end)
+      WithFiles files files_end (DoesPipe trail s source source_end sink sink_end random random_end)
   Does (command.Pipe None trail) s source source_end sink sink_end random random_end files files_end =
-      DoesPipeNew s source source_end sink sink_end random random_end files files_end
+      DoesPipeNew trail s source source_end sink sink_end random random_end files files_end
 
   -- words that name a command do what it does, and all others nothing
   pub record Runs (texts : List (List ℕ)) (s : Status) (source source_end : S) (sink sink_end : K) (random random_end : R)

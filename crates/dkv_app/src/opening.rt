@@ -9,14 +9,11 @@ ghost use Rattle.dkv_app.specs.declared.options.TheConstants.{MAX_TRAIL};
 use crate::status::Status;
 use dkv_files::Pair;
 use dkv_io::Disk;
-use dkv_store::{OpenRefusal, Store, open_store};
+use dkv_store::{OpenRefusal, Store, WORN, open_store};
 use std::alloc::Global;
 
-/// No term begins where the last commit has this number, or one above it.
-pub const WORN: u64 = 1 << 62;
-
-/// Opens what two files recover to, and begins a term on it. Writes nothing. The trail's greatest weight
-/// is in bytes, and bounds nothing yet. Takes memory for the records and as their commits did.
+/// Opens what two files recover to, and begins a term on it. Writes nothing. `trail` is the greatest
+/// weight of the term's items, in bytes. Takes memory for the records and as their commits did.
 pub(crate) fn open<D: Disk>(
     alloc: Global,
     pair: Pair<D>,
@@ -26,6 +23,7 @@ pub(crate) fn open<D: Disk>(
     ensures opened { WhereBothTold (D.seen pair.a) (D.seen pair.b) (λ fa fb. IfOk result
         (IsOpened D.may_leave fa fb)) }
     ensures begins { IfOk result (λ s. s.core.greatest ≡ s.base.moment) }
+    ensures limited { IfOk result (λ s. s.limit ≡ trail) }
     ensures number { IfOk result (λ s. s.core.state.number < 2 ^ 62) }
     ensures told { IfOk result (λ s. (D.seen s.a ≡ D.seen pair.a)
         × (D.seen s.b ≡ D.seen pair.b)) }

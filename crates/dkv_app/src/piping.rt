@@ -23,7 +23,7 @@ pub(crate) fn run_new<S: Source, K: Sink>(
     trail: u64,
 ) -> Status
     requires { trail ≤ MAX_TRAIL }
-    ensures { PipesNew result
+    ensures { PipesNew result trail
         (streams (S.left source.old) (S.ended source.old) (K.held sink.old))
         (streams (S.left source.new) (S.ended source.new) (K.held sink.new))
         (Rose (S.faults source.old) (S.faults source.new))
@@ -55,7 +55,7 @@ pub(crate) fn run_over<S: Source, K: Sink, D: Disk>(
     requires { trail ≤ MAX_TRAIL }
     ensures { Refuses D.seen D.may_leave D.faults D.moment D.left_since
         result.0 ((source.new ≡ source.old) × (sink.new ≡ sink.old)) pair result.1
-        ⊎ Pipes D.seen D.may_leave D.faults D.moment D.left_since result.0
+        ⊎ Pipes D.seen D.may_leave D.faults D.moment D.left_since result.0 trail
         (streams (S.left source.old) (S.ended source.old) (K.held sink.old))
         (streams (S.left source.new) (S.ended source.new) (K.held sink.new))
         (Rose (S.faults source.old) (S.faults source.new))

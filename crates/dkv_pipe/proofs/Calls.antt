@@ -1,6 +1,6 @@
 -- What a commit and a take came to is granted.
 use Rattle.std.proofs.Common.{◌≡◌, refl, sym, ap, subst, ◌∙◌, ℕ, ◌+◌, ◌≤◌, Bool, true, false, cond, List, [], ◌∷◌, length, Option, Some, None, Result, Ok, Err, inl, inr, arith}
-use Rattle.std.specs.Prelude.{MatchResult, IfOk, OnErr, unwrap_or, option_map}
+use Rattle.std.specs.Prelude.{MatchResult, IfOk, IfErr, OnErr, unwrap_or, option_map}
 use Rattle.dkv_base.specs.declared.run.NoMemory.{NoMemory}
 use Rattle.dkv_base.specs.declared.types.Answer.{Answer}
 use Rattle.dkv_base.specs.declared.types.Answer.TheVariants as answer
@@ -23,7 +23,7 @@ use Rattle.dkv_store.specs.declared.answers.Done.{Done}
 use Rattle.dkv_store.specs.declared.answers.Done.TheVariants as done
 use Rattle.dkv_store.specs.declared.answers.Refusal.{Refusal}
 use Rattle.dkv_store.specs.declared.answers.Refusal.TheVariants as refusal
-use Rattle.dkv_store.specs.Stores.{Contents, IsDone, IsRefused, IsTake, SameDisks, effective_at}
+use Rattle.dkv_store.specs.Stores.{Contents, IsDone, IsRefused, IsTake, IsNotTaken, SameDisks, effective_at}
 use Rattle.dkv_store.specs.Situations as situations
 use Rattle.dkv_store.specs.Situations.{StandsFor, AnswersCall, AnswersTake, ask_of, answer_of}
 use Rattle.dkv_store.specs.Terms.{Leads, left_in_doubt}
@@ -32,7 +32,7 @@ use Rattle.dkv_pipe.specs.Wishes.{asks}
 use Rattle.dkv_pipe.specs.ReplyFrames.{reply_bytes, bytes_of_reply, answer_bytes}
 use Rattle.dkv_pipe.specs.Courses.{situation_of}
 use Rattle.dkv_pipe.specs.Doubts.{asked_commit}
-use Rattle.dkv_pipe.specs.Told.{is_write, done_told, Tells, TellsTake, IsUnstopped, IsSureTake}
+use Rattle.dkv_pipe.specs.Told.{is_write, done_told, Tells, TellsTake, IsUnstopped, IsSure, IsSureTake}
 use Rattle.dkv_pipe.specs.Grants.{Grants, IsRefusedFor}
 use Rattle.dkv_pipe.proofs.Grants.{answered_granted}
 
@@ -60,6 +60,7 @@ number_done old new who t a (Ok (done.NotU64 index)) is = omega (arith, ap (λ (
 number_done old new who t a (Ok (done.Limit passed)) is = omega (arith, ap (λ (s : State). s.number) is.1.state)
 number_done old new who t a (Err refusal.DiskFault) is = omega (arith, ap (λ (s : State). s.number) is.1.state)
 number_done old new who t a (Err (refusal.Stopped place)) is = omega (arith, ap (λ (s : State). s.number) is.1.state)
+number_done old new who t a (Err (refusal.Full bytes limit)) is = omega (arith, ap (λ (s : State). s.number) is.3.state)
 number_done old new who t a (Err refusal.NoMemory) (inl is) = omega (arith, ap (λ (s : State). s.number) is.state)
 number_done old new who t a (Err refusal.NoMemory) (inr is) = omega (arith, ap (λ (s : State). s.number) is.state)
 
@@ -73,6 +74,7 @@ commit_unstopped old new who t (call.Write w) (Err (refusal.Stopped at)) none is
 commit_unstopped old new who t (call.Ack id) (Err (refusal.Stopped at)) none is place same = absurd is.0
 commit_unstopped old new who t (call.Fail id) (Err (refusal.Stopped at)) none is place same = absurd is.0
 commit_unstopped old new who t a (Err refusal.DiskFault) none is place same = absurd (cc same)
+commit_unstopped old new who t a (Err (refusal.Full bytes limit)) none is place same = absurd (cc same)
 commit_unstopped old new who t a (Err refusal.NoMemory) none is place same = absurd (cc same)
 
 -- and neither is a take
@@ -90,11 +92,12 @@ no_stop s who t place none is =
 
 pub take_sure : {D : Type 0} (old new : Contents D) (who at : ℕ) (came : Result Taken Refusal) → first_stop old.trail ≡ None → AnswersTake old who at came new → IsSureTake came
 take_sure old new who at (Ok x) none is e same = absurd (cc same)
-take_sure old new who at (Err refusal.NoMemory) none is e same = cc same
+take_sure old new who at (Err refusal.NoMemory) none is e same = let is_e : refusal.NoMemory ≡ e = cc same in subst IsSure is_e tt
+take_sure old new who at (Err (refusal.Full bytes limit)) none is e same = let is_e : refusal.Full bytes limit ≡ e = cc same in subst IsSure is_e tt
 take_sure old new who at (Err refusal.DiskFault) none is e same = absurd is
 take_sure old new who at (Err (refusal.Stopped place)) none is e same =
     let s = situation_of old in
-    absurd (no_stop s who (effective s at) place none (is s (record { state = refl; out = λ id. refl; greatest = refl; trail = refl; unlimited = refl })).0)
+    absurd (no_stop s who (effective s at) place none (is s (record { state = refl; out = λ id. refl; greatest = refl; trail = refl; limited = refl })).0)
 
 module _ {D : Type 0} (seen : D → Option (List ℕ)) (images : D → List ℕ → Type 0) (faults moment : D → ℕ) (since : D → ℕ → List ℕ → Type 0) (old new : Contents D) (who at : ℕ) where
   abbrev t : ℕ
@@ -129,6 +132,8 @@ module _ {D : Type 0} (seen : D → Option (List ℕ)) (images : D → List ℕ 
         answered_granted seen images faults moment since old new (ask_of a) who at (said (answer_of a d)) out is (told ∙ told_answer a d) leads later (let same = ap faults other in omega (arith, same)) (number_done old new who t a (Ok d) done)
     call_granted (Err refusal.DiskFault) (Ok out) is done leads cause told = fault_granted out is leads (cause refl) (number_done old new who t a (Err refusal.DiskFault) done) told
     call_granted (Err (refusal.Stopped place)) (Ok out) is done leads cause told = absurd told
+    call_granted (Err (refusal.Full bytes limit)) (Ok out) is done leads cause told =
+        answered_granted seen images faults moment since old new (ask_of a) who at (full bytes limit) out is told leads later (let same = ap faults other in omega (arith, same)) (number_done old new who t a (Err (refusal.Full bytes limit)) done)
     call_granted (Err refusal.NoMemory) (Ok out) is done leads cause told = absurd told
     call_granted came (Err none) is done leads cause told = tt
 
@@ -144,6 +149,7 @@ module _ {D : Type 0} (seen : D → Option (List ℕ)) (images : D → List ℕ 
     call_refused (Ok (done.Limit passed)) (Err none) is leads told = absurd told
     call_refused (Err refusal.DiskFault) (Err none) is leads told = absurd told
     call_refused (Err (refusal.Stopped place)) (Err none) is leads told = absurd told
+    call_refused (Err (refusal.Full bytes limit)) (Err none) is leads told = absurd told
 
   -- ---- takes
 
@@ -156,14 +162,19 @@ module _ {D : Type 0} (seen : D → Option (List ℕ)) (images : D → List ℕ 
     given r x is took = answered_granted seen images faults moment since old new ask.Take who at (said r) (answer_bytes r) is refl leads
         (let a = ap faults same.a in omega (arith, a)) (let b = ap faults same.b in omega (arith, b)) (number_taken x took)
 
-    pub take_granted : (came : Result Taken Refusal) (result : Result (List ℕ) NoMemory) → AnswersTake old who at came new → IfOk came (λ x. IsTake old who t x new) → TellsTake came result
+    pub take_granted : (came : Result Taken Refusal) (result : Result (List ℕ) NoMemory) → AnswersTake old who at came new → IfOk came (λ x. IsTake old who t x new) → IfErr came (λ e. IsNotTaken old who t e new) → TellsTake came result
         → IfOk result (λ out. Grants seen images faults moment since old (asks ask.Take) who at out new)
-    take_granted (Ok (taken.Leased m)) result is took told =
+    take_granted (Ok (taken.Leased m)) result is took short told =
         subst (λ (r : Result (List ℕ) NoMemory). IfOk r (λ out. Grants seen images faults moment since old (asks ask.Take) who at out new)) (sym told) (given (answer.Leased m) (taken.Leased m) is took)
-    take_granted (Ok (taken.Nothing next)) result is took told =
+    take_granted (Ok (taken.Nothing next)) result is took short told =
         subst (λ (r : Result (List ℕ) NoMemory). IfOk r (λ out. Grants seen images faults moment since old (asks ask.Take) who at out new)) (sym told) (given (answer.Nothing next) (taken.Nothing next) is took)
-    take_granted (Err e) (Ok out) is took told = absurd told
-    take_granted (Err e) (Err none) is took told = tt
+    take_granted (Err refusal.DiskFault) (Ok out) is took short told = absurd told
+    take_granted (Err (refusal.Stopped place)) (Ok out) is took short told = absurd told
+    take_granted (Err refusal.NoMemory) (Ok out) is took short told = absurd told
+    take_granted (Err (refusal.Full bytes limit)) (Ok out) is took short told =
+        answered_granted seen images faults moment since old new ask.Take who at (full bytes limit) out is told leads
+        (let a = ap faults same.a in omega (arith, a)) (let b = ap faults same.b in omega (arith, b)) (omega (arith, ap (λ (s : State). s.number) short.5.state))
+    take_granted (Err e) (Err none) is took short told = tt
 
     pub take_refused : (came : Result Taken Refusal) (result : Result (List ℕ) NoMemory) → AnswersTake old who at came new → TellsTake came result → OnErr result (IsRefusedFor seen images moment since old at new)
     take_refused (Ok (taken.Leased m)) result is told = subst (λ (r : Result (List ℕ) NoMemory). OnErr r (IsRefusedFor seen images moment since old at new)) (sym told) tt
@@ -172,3 +183,4 @@ module _ {D : Type 0} (seen : D → Option (List ℕ)) (images : D → List ℕ 
     take_refused (Err refusal.NoMemory) (Err none) is told = record { raised = is; leads = leads }
     take_refused (Err refusal.DiskFault) (Err none) is told = absurd is
     take_refused (Err (refusal.Stopped place)) (Err none) is told = absurd (cc told)
+    take_refused (Err (refusal.Full bytes limit)) (Err none) is told = absurd (cc told)

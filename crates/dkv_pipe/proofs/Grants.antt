@@ -17,12 +17,12 @@ use Rattle.dkv_base.specs.Replies.{Reply, said, limited, read_reply}
 use Rattle.dkv_base.specs.Steps.{Situation, effective, reply_to, answered, leaves_moment, raised, change}
 use Rattle.dkv_base.specs.Trails.{first_stop}
 use Rattle.dkv_core.specs.Decisions.{may_ask}
-use Rattle.dkv_core.proofs.Replying.{write_limited}
 use Rattle.dkv_msgs.specs.Readings.{reads_atomic_write}
 use Rattle.dkv_store.specs.Stores.{Contents}
 use Rattle.dkv_store.specs.Situations as situations
 use Rattle.dkv_store.specs.Situations.{StandsFor, ask_of}
 use Rattle.dkv_store.specs.Terms.{Leads}
+use Rattle.dkv_store.proofs.Answering.{limit_reply}
 use Rattle.dkv_pipe.specs.Wishes.{Wish, asks, malformed, readings, wish_of_read}
 use Rattle.dkv_pipe.specs.ReplyFrames.{bytes_of_reply, answer_bytes, limit_bytes, malformed_bytes}
 use Rattle.dkv_pipe.specs.Pipe.{grant}
@@ -90,13 +90,7 @@ module _ {D : Type 0} (seen : D → Option (List ℕ)) (images : D → List ℕ 
       → Grants seen images faults moment since s (asks (ask.Write w)) who at out s
   write_limited_granted s who at w passed out none is told =
       refused_granted s (ask.Write w) who at (answer.Limit passed) out refl
-      (λ t stands. (write_limited s.core s.core who (effective t at) w passed (is Narrow) (record { state = refl; out = refl; greatest = refl }) t (record {
-        state = stands.state;
-        out = stands.out;
-        greatest = stands.greatest;
-        unstopped = ap first_stop stands.trail ∙ none;
-        unlimited = stands.unlimited;
-      })).0) told
+      (λ t stands. limit_reply s s none t who (effective t at) w passed (is Narrow) stands) told
 
   -- the same of a body that was read
   pub write_refused : (s : Contents D) (body : List ℕ) (who at : ℕ) (passed : Limit) (out : List ℕ) → first_stop s.trail ≡ None

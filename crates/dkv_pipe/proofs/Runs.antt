@@ -53,7 +53,7 @@ raised_stands s old new t stands is = record {
   out = λ id. stands.out id ∙ ap (λ (ids : List MsgId). is_out id ids) (sym is.out);
   greatest = sym is.greatest;
   trail = stands.trail ∙ sym is.trail;
-  unlimited = stands.unlimited;
+  limited = stands.limited;
 }
 
 same_stands : {D : Type 0} (s : Situation) (old new : Contents D) → StandsFor s old → IsRaisedTo old.core.greatest old new → StandsFor s new
@@ -62,7 +62,7 @@ same_stands s old new stands is = record {
   out = λ id. stands.out id ∙ ap (λ (ids : List MsgId). is_out id ids) (sym is.out);
   greatest = stands.greatest ∙ sym is.greatest;
   trail = stands.trail ∙ sym is.trail;
-  unlimited = stands.unlimited;
+  limited = stands.limited;
 }
 
 -- the doubt of a frame in a situation is the one in its store
@@ -83,7 +83,7 @@ module _ {D : Type 0} (seen : D → Option (List ℕ)) (images : D → List ℕ 
     taken = consumes_nothing before.left;
     answered = record { whole = refl; built = tt; early = tt; place = refl; replied = refl; many = refl; marked = tt };
     written = appends_nothing before.held;
-    stands = record { state = refl; out = λ id. refl; greatest = refl; trail = refl; unlimited = refl };
+    stands = record { state = refl; out = λ id. refl; greatest = refl; trail = refl; limited = refl };
     reaches = reaches_none faults s;
     leads = leads_none seen images moment since s;
   }

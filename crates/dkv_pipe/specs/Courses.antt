@@ -1,12 +1,11 @@
 -- How far a run over frames came.
 --     Course      the answered frames and their marks, the place behind them, their replies, and what was read behind them
 --     IsCourse from bytes c      the bytes begin with the frames, which were replied to so, and then comes the rest
---     situation_of s, started      the situation of a store, and that of a new database
+--     situation_of s, started limit      the situation of a store, and that of a new database
 use Rattle.std.specs.Prelude.{◌≡◌, ◌+◌, ℕ, Bool, true, false, List, [], ◌∷◌, length, drop, IsTrue, ⊤}
 use Rattle.std.specs.List.{AllByRecursion}
 use Rattle.dkv_base.specs.State.{empty_state}
 use Rattle.dkv_base.specs.Steps.{Situation, opened, first_mark}
-use Rattle.dkv_core.specs.Runs.{no_limit}
 use Rattle.dkv_store.specs.Stores.{Contents}
 use Rattle.dkv_pipe.specs.declared.reply_status.ReplyStatus.TheVariants.{DiskFault}
 use Rattle.dkv_pipe.specs.Frames.{PipeFrame, Begins, BeginEarly}
@@ -15,11 +14,11 @@ use Rattle.dkv_pipe.specs.ReplyFrames.{reply_bytes}
 use Rattle.dkv_pipe.specs.Pipe.{frame_step, replies_from}
 use Rattle.dkv_pipe.specs.Built.{is_built}
 
--- no commit was made, and no weight passes the limit
-abbrev pub started : Situation
-started = opened empty_state no_limit
+-- no commit was made, under this limit of weight
+abbrev pub started : ℕ → Situation
+started limit = opened empty_state limit
 
--- the store's state and trail, what is out there and its greatest moment; nobody watches, and no weight passes the limit
+-- the store's state, trail and limit, what is out there and its greatest moment; nobody watches
 abbrev pub situation_of : {D : Type 0} → Contents D → Situation
 situation_of s = record {
   state = s.core.state;
@@ -27,7 +26,7 @@ situation_of s = record {
   greatest = s.core.greatest;
   watchers = [];
   trail = s.trail;
-  limit = no_limit;
+  limit = s.limit;
 }
 
 -- the frames that were answered, a mark for each, the place behind them, their replies, and what was read behind them

@@ -5,6 +5,7 @@
 use Rattle.std.specs.Prelude.{◌≡◌, ℕ, Bool, true, false, if◌then◌else◌, List, [], Result, Ok, Err, ⊤}
 use Rattle.dkv_base.specs.declared.run.NoMemory.{NoMemory}
 use Rattle.dkv_base.specs.declared.types.Answer.TheVariants as answer
+use Rattle.dkv_base.specs.Replies.{full}
 use Rattle.dkv_base.specs.declared.types.Call.{Call}
 use Rattle.dkv_base.specs.declared.types.Call.TheVariants as call
 use Rattle.dkv_core.specs.declared.takes.Taken.{Taken}
@@ -14,7 +15,7 @@ use Rattle.dkv_store.specs.declared.answers.Done.TheVariants as done
 use Rattle.dkv_store.specs.declared.answers.Refusal.{Refusal}
 use Rattle.dkv_store.specs.declared.answers.Refusal.TheVariants as refusal
 use Rattle.dkv_pipe.specs.declared.reply_status.ReplyStatus.TheVariants as status
-use Rattle.dkv_pipe.specs.ReplyFrames.{reply_bytes, answer_bytes}
+use Rattle.dkv_pipe.specs.ReplyFrames.{reply_bytes, bytes_of_reply, answer_bytes}
 
 -- the call is a write
 abbrev pub is_write : Call → Bool
@@ -41,6 +42,7 @@ MayWantMemory (Ok (done.NotU64 index)) = ⊥
 MayWantMemory (Ok (done.Limit passed)) = ⊥
 MayWantMemory (Err refusal.DiskFault) = ⊥
 MayWantMemory (Err (refusal.Stopped place)) = ⊥
+MayWantMemory (Err (refusal.Full bytes limit)) = ⊥
 MayWantMemory (Err refusal.NoMemory) = ⊤
 
 -- the reply that tells it; a fault of the disk has one of its own
@@ -48,22 +50,37 @@ abbrev pub IsToldBy : Bool → Result Done Refusal → List ℕ → Type 0
 IsToldBy writes (Ok d) out = out ≡ done_told writes d
 IsToldBy writes (Err refusal.DiskFault) out = out ≡ reply_bytes status.DiskFault []
 IsToldBy writes (Err (refusal.Stopped place)) out = ⊥
+IsToldBy writes (Err (refusal.Full bytes limit)) out = out ≡ bytes_of_reply (full bytes limit)
 IsToldBy writes (Err refusal.NoMemory) out = ⊥
 
 abbrev pub Tells : Bool → Result Done Refusal → Result (List ℕ) NoMemory → Type 0
 Tells writes came (Ok out) = IsToldBy writes came out
 Tells writes came (Err none) = MayWantMemory came
 
+-- a take is refused by a full trail, which has a reply of its own
+abbrev pub IsFullTold : Refusal → List ℕ → Type 0
+IsFullTold refusal.DiskFault out = ⊥
+IsFullTold (refusal.Stopped place) out = ⊥
+IsFullTold (refusal.Full bytes limit) out = out ≡ bytes_of_reply (full bytes limit)
+IsFullTold refusal.NoMemory out = ⊥
+
 -- the reply to a take; only want of memory has none
 abbrev pub TellsTake : Result Taken Refusal → Result (List ℕ) NoMemory → Type 0
 TellsTake (Ok (taken.Leased m)) result = result ≡ Ok (answer_bytes (answer.Leased m))
 TellsTake (Ok (taken.Nothing next)) result = result ≡ Ok (answer_bytes (answer.Nothing next))
-TellsTake (Err e) (Ok out) = ⊥
+TellsTake (Err e) (Ok out) = IsFullTold e out
 TellsTake (Err e) (Err none) = e ≡ refusal.NoMemory
+
+-- neither a stop nor a fault
+abbrev pub IsSure : Refusal → Type 0
+IsSure refusal.DiskFault = ⊥
+IsSure (refusal.Stopped place) = ⊥
+IsSure (refusal.Full bytes limit) = ⊤
+IsSure refusal.NoMemory = ⊤
 
 -- no stop came in between, of a commit, and neither that nor a fault, of a take
 abbrev pub IsUnstopped : Result Done Refusal → Type 0
 IsUnstopped came = (place : ℕ) → came ≡ Err (refusal.Stopped place) → ⊥
 
 abbrev pub IsSureTake : Result Taken Refusal → Type 0
-IsSureTake came = (e : Refusal) → came ≡ Err e → e ≡ refusal.NoMemory
+IsSureTake came = (e : Refusal) → came ≡ Err e → IsSure e

@@ -1,8 +1,10 @@
 // The replies, each as the frame that tells it.
-ghost use Rattle.std.specs.Prelude.{◌≡◌, ◌≤◌, [], length};
+ghost use Rattle.std.specs.Prelude.{◌≡◌, ◌++◌, ◌≤◌, [], length};
+ghost use Rattle.std.specs.Int.{w64, to_le_bytes};
+ghost use Rattle.dkv_base.specs.Replies.{full};
 ghost use Rattle.dkv_base.specs.declared.types.Answer.TheVariants.{Leased, NoLease, Nothing, NotU64};
 ghost use Rattle.dkv_base.specs.Spelling.{id_bytes};
-ghost use Rattle.dkv_pipe.specs.ReplyFrames.{answer_bytes, limit_bytes, malformed_bytes, reply_bytes};
+ghost use Rattle.dkv_pipe.specs.ReplyFrames.{answer_bytes, bytes_of_reply, limit_bytes, malformed_bytes, reply_bytes};
 ghost use Rattle.dkv_pipe.specs.Told.{is_write, made_bytes, IsSureTake, IsUnstopped, Tells, TellsTake};
 ghost use Rattle.dkv_pipe.specs.declared.reply_status.ReplyStatus.TheVariants as status;
 ghost use Rattle.dkv_pipe.specs.declared.sizes.TheConstants.{MAX_FRONT_BYTES};
@@ -71,6 +73,22 @@ fn made(alloc: Global, writes: bool, n: u64) -> Reply
     }
 }
 
+// Two numbers in eight bytes each, least first.
+fn both_numbers(first: u64, second: u64) -> [u8; 16]
+    ensures { result ≡ to_le_bytes w64 first ++ to_le_bytes w64 second }
+{
+    let [a, b, c, d, e, f, g, h] = first.to_le_bytes();
+    let [i, j, k, l, m, n, o, p] = second.to_le_bytes();
+    [a, b, c, d, e, f, g, h, i, j, k, l, m, n, o, p]
+}
+
+// The reply where the items of the term weigh so many bytes, and one more would pass the limit. Takes no memory.
+fn full(alloc: Global, trail_bytes: u64, limit: u64) -> Reply
+    ensures { result ≡ bytes_of_reply (full trail_bytes limit) }
+{
+    short(alloc, ReplyStatus::Full, &both_numbers(trail_bytes, limit))
+}
+
 /// The reply that tells what a commit of a write, or else of a settlement, came to. Takes memory
 /// for the places of checks that fail, and for nothing else.
 pub(crate) fn tell(
@@ -90,6 +108,7 @@ pub(crate) fn tell(
         Ok(Done::Limit(passed)) => Ok(limited(alloc, passed)),
         Err(Refusal::DiskFault) => Ok(short(alloc, ReplyStatus::DiskFault, &[])),
         Err(Refusal::Stopped { .. }) => unreachable!(),
+        Err(Refusal::Full { trail_bytes, limit }) => Ok(full(alloc, trail_bytes, limit)),
         Err(Refusal::NoMemory) => Err(NoMemory),
     }
 }
@@ -129,6 +148,7 @@ pub(crate) fn tell_take(alloc: Global, came: Result<Taken, Refusal>) -> Result<R
     match came {
         Ok(Taken::Leased(message)) => Ok(leased(message)),
         Ok(Taken::Nothing { next }) => Ok(nothing(alloc, next)),
+        Err(Refusal::Full { trail_bytes, limit }) => Ok(full(alloc, trail_bytes, limit)),
         Err(Refusal::NoMemory) => Err(NoMemory),
         Err(Refusal::DiskFault | Refusal::Stopped { .. }) => unreachable!(),
     }

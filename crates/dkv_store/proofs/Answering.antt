@@ -1,6 +1,8 @@
--- What the calls of a store answer is what the definitions answer in each situation of the store.
-use Rattle.std.proofs.Common.{◌≡◌, ℕ, ◌+◌, Bool, true, false, cond, List, [], ◌∷◌, ◌++◌, Option, Some, None, Result, Ok, Err, inl, refl, sym, ap, subst, ◌∙◌}
-use Rattle.std.specs.Prelude.{max, not, ◌&&◌, MatchResult, IfOk, ⊤}
+-- What the commits of a store answer is what the definitions answer in each situation of the store.
+use Rattle.std.proofs.Common.{◌≡◌, ℕ, ◌+◌, Bool, true, false, cond, ◌<◌, ◌≤◌, ◌≢◌, List, [], ◌∷◌, ◌++◌, Option, Some, None, Result, Ok, Err, inl, refl, sym, ap, subst, ◌∙◌}
+use Rattle.std.specs.Prelude.{max, not, ◌&&◌, nat_lt, MatchResult}
+use Rattle.std.specs.Result.{result_err}
+use Rattle.std.proofs.lemmas.Bool.{le-ltb, lt-ltb}
 use Rattle.dkv_base.specs.declared.types.Answer.{Answer}
 use Rattle.dkv_base.specs.declared.types.Answer.TheVariants as answer
 use Rattle.dkv_base.specs.declared.types.Ask.{Ask}
@@ -9,79 +11,88 @@ use Rattle.dkv_base.specs.declared.types.AtomicWrite.{AtomicWrite}
 use Rattle.dkv_base.specs.declared.types.Call.{Call}
 use Rattle.dkv_base.specs.declared.types.Call.TheVariants as call
 use Rattle.dkv_base.specs.declared.types.Commit.TheVariants as commit
-use Rattle.dkv_base.specs.declared.types.Entry.{Entry}
 use Rattle.dkv_base.specs.declared.types.Item.TheVariants as item
 use Rattle.dkv_base.specs.declared.types.Item.{Item}
-use Rattle.dkv_base.specs.declared.types.Message.{Message}
 use Rattle.dkv_base.specs.declared.types.MsgId.{MsgId}
-use Rattle.dkv_base.specs.declared.types.ReadRange.{ReadRange}
 use Rattle.dkv_base.specs.declared.codes.Limit.{Limit}
-use Rattle.dkv_base.specs.Limits.{read_limit}
-use Rattle.dkv_base.specs.State.{State, same_id}
+use Rattle.dkv_base.specs.Limits.{write_limit}
+use Rattle.dkv_base.specs.State.{State, same_id, seen}
 use Rattle.dkv_base.specs.Moments.{capped_moment}
 use Rattle.dkv_base.specs.After.{after, is_legal_in}
 use Rattle.dkv_base.specs.Messages.{is_out}
+use Rattle.dkv_base.specs.Writes.{failing, mutated_all}
 use Rattle.dkv_base.specs.Trails.{out, weight, first_stop}
-use Rattle.dkv_base.specs.Replies.{Reply, said, disk_fault, full, read_reply}
-use Rattle.dkv_base.specs.Steps.{Situation, effective, step_at, reply_to, answered, doubted, is_commit}
+use Rattle.dkv_base.specs.Replies.{Reply, said, disk_fault, full}
+use Rattle.dkv_base.specs.Steps.{Situation, effective, raised, step_at, reply_to, answered, doubted, is_commit}
 use Rattle.dkv_core.specs.Decisions.{commit_of, may_ask, settled_by}
 use Rattle.dkv_core.specs.Settling.{out_after}
-use Rattle.dkv_core.specs.Runs as runs
-use Rattle.dkv_core.specs.Runs.{IsAnswered}
-use Rattle.dkv_core.specs.declared.takes.Taken.{Taken}
-use Rattle.dkv_core.specs.declared.takes.Taken.TheVariants as taken
-use Rattle.dkv_core.proofs.Replying.{SameAt, rows, in_rows, free, out-without, write_limited, write_fails, write_not_u64, read_given, take_leased, take_nothing}
+use Rattle.dkv_core.proofs.Replying.{rows, free, out-without}
 use Rattle.dkv_store.specs.declared.answers.Done.{Done}
 use Rattle.dkv_store.specs.declared.answers.Done.TheVariants as done
 use Rattle.dkv_store.specs.declared.answers.Refusal.{Refusal}
 use Rattle.dkv_store.specs.declared.answers.Refusal.TheVariants as refusal
-use Rattle.dkv_store.specs.Stores.{Contents, IsDone, IsRefused, IsMade, IsDoubtful, IsRaised, IsRaisedTo, IsTake, effective_at}
-use Rattle.dkv_store.specs.Situations.{StandsFor, Answers, AnswersCall, AnswersTake, ask_of, made_answer}
-use Rattle.dkv_store.proofs.Trailing.{unstopped_on, leased_made}
+use Rattle.dkv_store.specs.Stores.{Contents, IsDone, IsRefused, IsMade, IsDoubtful, IsFull, IsRaisedTo, effective_at}
+use Rattle.dkv_store.specs.Trails.{FitsIn}
+use Rattle.dkv_store.specs.Situations.{StandsFor, Answers, AnswersCall, ask_of, made_answer}
+use Rattle.dkv_store.proofs.Trailing.{leased_made}
+
+-- ---- the rows of a reply to a write
+
+fails_row : (places : List ℕ) (bad : Option ℕ) (over : Bool) (heavy : Reply) (n : ℕ) → places ≢ [] → rows None None places bad over heavy n ≡ said (answer.Fails places)
+fails_row [] bad over heavy n some = absurd (some refl)
+fails_row (place ∷ places) bad over heavy n some = refl
+
+-- a read changes the greatest moment alone
+pub raised_alone : {D : Type 0} (old new : Contents D) (t : ℕ) → new ≡ record old { core = record old.core { greatest = t } } → IsRaisedTo t old new
+raised_alone {D} old new t is = record {
+  base = ap (λ (c : Contents D). c.base) is;
+  state = ap (λ (c : Contents D). c.core.state) is;
+  out = ap (λ (c : Contents D). c.core.out) is;
+  greatest = ap (λ (c : Contents D). c.core.greatest) is;
+  trail = ap (λ (c : Contents D). c.trail) is;
+  roomless = ap (λ (c : Contents D). c.roomless) is;
+  doubt = ap (λ (c : Contents D). c.doubt) is;
+  who = ap (λ (c : Contents D). c.who) is;
+  limit = ap (λ (c : Contents D). c.limit) is;
+  record_bytes = ap (λ (c : Contents D). c.record_bytes) is;
+  a = ap (λ (c : Contents D). c.a) is;
+  b = ap (λ (c : Contents D). c.b) is;
+}
 
 module _ {D : Type 0} (old new : Contents D) (none : first_stop old.trail ≡ None) where
-  -- a situation of the store is one of its core
-  core_stands : (s : Situation) → StandsFor s old → runs.StandsFor s old.core
-  core_stands s stands = record {
-    state = stands.state;
-    out = stands.out;
-    greatest = stands.greatest;
-    unstopped = ap first_stop stands.trail ∙ none;
-    unlimited = stands.unlimited;
-  }
-
-  -- and one of its core with its trail is one of the store
-  with_trail : (s : Situation) → runs.StandsFor s new.core → s.trail ≡ new.trail → StandsFor s new
-  with_trail s stands trail = record {
-    state = stands.state;
-    out = stands.out;
-    greatest = stands.greatest;
-    trail = trail;
-    unlimited = stands.unlimited;
-  }
-
   when : (s : Situation) (at : ℕ) → StandsFor s old → effective_at old at ≡ effective s at
   when s at stands = ap (λ (g : ℕ). max (capped_moment at) g) (sym stands.greatest)
 
-  -- what the core answers, where the trail grows as the steps say
-  unmarked : (who at : ℕ) (a : Ask) (r : Answer) → IsAnswered old.core who (effective_at old at) a r new.core
-      → ((s : Situation) → StandsFor s old → (answered who (effective_at old at) a (said r) s).trail ≡ new.trail)
-      → Answers old who at a false (said r) new
-  unmarked who at a r is trail = λ s stands.
+  pub unstopped : (s : Situation) → StandsFor s old → first_stop s.trail ≡ None
+  unstopped s stands = ap first_stop stands.trail ∙ none
+
+  -- a situation of the store is one of the store that was raised, where it is raised
+  pub rises : (s : Situation) (t : ℕ) → StandsFor s old → IsRaisedTo t old new → StandsFor (raised t s) new
+  rises s t stands same = record {
+    state = stands.state ∙ sym same.state;
+    out = λ k. stands.out k ∙ ap (λ (ids : List MsgId). is_out k ids) (sym same.out);
+    greatest = sym same.greatest;
+    trail = stands.trail ∙ sym same.trail;
+    limited = stands.limited ∙ sym same.limit;
+  }
+
+  -- the reply in each situation, and where it leads
+  pub unmarked : (who at : ℕ) (a : Ask) (q : Reply)
+      → ((s : Situation) → StandsFor s old → (reply_to s who (effective_at old at) a ≡ q) × StandsFor (answered who (effective_at old at) a q s) new)
+      → Answers old who at a false q new
+  unmarked who at a q is = λ s stands.
       let t = effective_at old at in
-      let here = is s (core_stands s stands) in
-      subst (λ (u : ℕ). ((step_at s who u a false).0 ≡ said r) × StandsFor (step_at s who u a false).1 new) (when s at stands) (
-        here.0,
-        subst (λ (q : Reply). StandsFor (answered who t a q s) new) (sym here.0) (with_trail (answered who t a (said r) s) here.1 (trail s stands)),
-      )
+      let here = is s stands in
+      subst (λ (u : ℕ). ((step_at s who u a false).0 ≡ q) × StandsFor (step_at s who u a false).1 new) (when s at stands)
+      (here.0, subst (λ (r : Reply). StandsFor (answered who t a r s) new) (sym here.0) here.1)
 
   -- a commit that is marked leaves a doubt
   marked : (who at : ℕ) (a : Ask) (r : Answer) → is_commit (said r) ≡ true
-      → ((s : Situation) → runs.StandsFor s old.core → reply_to s who (effective_at old at) a ≡ said r)
+      → ((s : Situation) → StandsFor s old → reply_to s who (effective_at old at) a ≡ said r)
       → IsDoubtful who (effective_at old at) old new → Answers old who at a true disk_fault new
   marked who at a r commits reply doubt = λ s stands.
       let t = effective_at old at in
-      let given = ap is_commit (reply s (core_stands s stands)) ∙ commits in
+      let given = ap is_commit (reply s stands) ∙ commits in
       let both = ap (λ b. cond b (disk_fault, doubted who t s) (reply_to s who t a, answered who t a (reply_to s who t a) s)) given in
       subst (λ (u : ℕ). ((step_at s who u a true).0 ≡ disk_fault) × StandsFor (step_at s who u a true).1 new) (when s at stands) (
         ap (λ (x : Reply × Situation). x.0) both,
@@ -90,25 +101,45 @@ module _ {D : Type 0} (old new : Contents D) (none : first_stop old.trail ≡ No
           out = λ k. stands.out k ∙ ap (λ (ids : List MsgId). is_out k ids) (sym doubt.out);
           greatest = sym doubt.greatest;
           trail = ap (λ (xs : List Item). xs ++ item.Doubt who t ∷ []) stands.trail ∙ sym doubt.trail;
-          unlimited = stands.unlimited;
+          limited = stands.limited ∙ sym doubt.limit;
         }),
       )
 
   -- ---- commits
 
-  -- a call that may be made is answered so
-  legal_reply : (who t : ℕ) (a : Call) → is_legal_in old.core.state (commit_of who t a) ≡ true → may_ask old.core a ≡ true
-      → (s : Situation) → runs.StandsFor s old.core → reply_to s who t (ask_of a) ≡ said (made_answer a (old.core.state.number + 1))
-  legal_reply who t (call.Write w) legal may s stands =
+  -- the rows of a write's reply are the store's
+  in_rows : (s : Situation) (who t : ℕ) (w : AtomicWrite) → StandsFor s old
+      → reply_to s who t (ask.Write w)
+      ≡ rows (write_limit w) None (failing w (seen old.core.state t)) (result_err (mutated_all w (old.core.state.number + 1) t (seen old.core.state t)))
+      (nat_lt old.limit (weight (old.trail ++ item.Made (commit.Wrote who t w) ∷ []))) (full (weight old.trail) old.limit) (old.core.state.number + 1)
+  in_rows s who t w stands =
+      let stop = unstopped s stands in
+      λ i. rows (write_limit w) (stop i) (failing w (seen (stands.state i) t)) (result_err (mutated_all w ((stands.state i).number + 1) t (seen (stands.state i) t)))
+      (nat_lt (stands.limited i) (weight (stands.trail i ++ item.Made (commit.Wrote who t w) ∷ []))) (full (weight (stands.trail i)) (stands.limited i)) ((stands.state i).number + 1)
+
+  -- a write that may be made is answered so, by whether it finds room
+  legal_rows : (s : Situation) (who t : ℕ) (w : AtomicWrite) (over : Bool) → StandsFor s old → is_legal_in old.core.state (commit.Wrote who t w) ≡ true
+      → nat_lt old.limit (weight (old.trail ++ item.Made (commit.Wrote who t w) ∷ [])) ≡ over
+      → reply_to s who t (ask.Write w) ≡ rows None None [] None over (full (weight old.trail) old.limit) (old.core.state.number + 1)
+  legal_rows s who t w over stands legal is =
       let passes = free old.core who t w legal in
-      in_rows s old.core who t w stands
-      ∙ (λ i. rows (passes.limits i) None (passes.checks i) (passes.numbers i) false (full (weight s.trail) s.limit) (old.core.state.number + 1))
-  legal_reply who t (call.Ack id) legal may s stands =
+      in_rows s who t w stands
+      ∙ (λ i. rows (passes.limits i) None (passes.checks i) (passes.numbers i) (is i) (full (weight old.trail) old.limit) (old.core.state.number + 1))
+
+  -- a call that may be made and finds room is answered so
+  legal_reply : (who t : ℕ) (a : Call) → is_legal_in old.core.state (commit_of who t a) ≡ true → may_ask old.core a ≡ true → FitsIn old.limit old.trail (commit_of who t a)
+      → (s : Situation) → StandsFor s old → reply_to s who t (ask_of a) ≡ said (made_answer a (old.core.state.number + 1))
+  legal_reply who t (call.Write w) legal may fits s stands = legal_rows s who t w false stands legal (le-ltb old.limit (weight (old.trail ++ item.Made (commit.Wrote who t w) ∷ [])) fits)
+  legal_reply who t (call.Ack id) legal may fits s stands =
       ap (λ b. cond b (said (answer.Settled (s.state.number + 1))) (said answer.NoLease)) (stands.out id ∙ may)
       ∙ ap (λ (x : State). said (answer.Settled (x.number + 1))) stands.state
-  legal_reply who t (call.Fail id) legal may s stands =
+  legal_reply who t (call.Fail id) legal may fits s stands =
       ap (λ b. cond b (said (answer.Settled (s.state.number + 1))) (said answer.NoLease)) (stands.out id ∙ may)
       ∙ ap (λ (x : State). said (answer.Settled (x.number + 1))) stands.state
+
+  -- a write that may be made and finds no room
+  heavy_reply : (who t : ℕ) (w : AtomicWrite) → IsFull old who t w → (s : Situation) → StandsFor s old → reply_to s who t (ask.Write w) ≡ full (weight old.trail) old.limit
+  heavy_reply who t w is s stands = legal_rows s who t w true stands is.0 (lt-ltb old.limit (weight (old.trail ++ item.Made (commit.Wrote who t w) ∷ [])) is.1)
 
   module _ (leased : (id : MsgId) → is_out id old.core.out ≡ is_out id (out old.trail)) (leased_new : (id : MsgId) → is_out id new.core.out ≡ is_out id (out new.trail)) where
     -- what is out behind a commit
@@ -119,73 +150,120 @@ module _ {D : Type 0} (old new : Contents D) (none : first_stop old.trail ≡ No
         → Answers old who at (ask_of a) false (said (made_answer a n)) new
     made who at n (call.Write w) may is =
         let t = effective_at old at in
-        unmarked who at (ask.Write w) (answer.Written n) (λ s stands. (
-          legal_reply who t (call.Write w) is.legal may s stands ∙ ap (λ (k : ℕ). said (answer.Written k)) (sym is.number),
+        unmarked who at (ask.Write w) (said (answer.Written n)) (λ s stands. (
+          legal_reply who t (call.Write w) is.legal may is.fits s stands ∙ ap (λ (k : ℕ). said (answer.Written k)) (sym is.number),
           record {
             state = ap (λ (x : State). after x (commit.Wrote who t w ∷ [])) stands.state ∙ sym is.state;
             out = λ k. stands.out k ∙ out_made who t (call.Write w) k is.trail;
             greatest = sym is.greatest;
-            unstopped = unstopped_on s.trail (item.Made (commit.Wrote who t w)) refl stands.unstopped;
-            unlimited = stands.unlimited;
+            trail = ap (λ (xs : List Item). xs ++ item.Made (commit.Wrote who t w) ∷ []) stands.trail ∙ sym is.trail;
+            limited = stands.limited ∙ sym is.limit;
           },
-        )) (λ s stands. ap (λ (xs : List Item). xs ++ item.Made (commit.Wrote who t w) ∷ []) stands.trail ∙ sym is.trail)
+        ))
     made who at n (call.Ack id) may is =
         let t = effective_at old at in
-        unmarked who at (ask.Settle id true) (answer.Settled n) (λ s stands. (
-          legal_reply who t (call.Ack id) is.legal may s stands ∙ ap (λ (k : ℕ). said (answer.Settled k)) (sym is.number),
+        unmarked who at (ask.Settle id true) (said (answer.Settled n)) (λ s stands. (
+          legal_reply who t (call.Ack id) is.legal may is.fits s stands ∙ ap (λ (k : ℕ). said (answer.Settled k)) (sym is.number),
           record {
             state = ap (λ (x : State). after x (commit.Acked who t id ∷ [])) stands.state ∙ sym is.state;
             out = λ k. out-without id k s.out ∙ ap (λ b. not (same_id k id) && b) (stands.out k) ∙ sym (out-without id k old.core.out) ∙ out_made who t (call.Ack id) k is.trail;
             greatest = sym is.greatest;
-            unstopped = unstopped_on s.trail (item.Made (commit.Acked who t id)) refl stands.unstopped;
-            unlimited = stands.unlimited;
+            trail = ap (λ (xs : List Item). xs ++ item.Made (commit.Acked who t id) ∷ []) stands.trail ∙ sym is.trail;
+            limited = stands.limited ∙ sym is.limit;
           },
-        )) (λ s stands. ap (λ (xs : List Item). xs ++ item.Made (commit.Acked who t id) ∷ []) stands.trail ∙ sym is.trail)
+        ))
     made who at n (call.Fail id) may is =
         let t = effective_at old at in
-        unmarked who at (ask.Settle id false) (answer.Settled n) (λ s stands. (
-          legal_reply who t (call.Fail id) is.legal may s stands ∙ ap (λ (k : ℕ). said (answer.Settled k)) (sym is.number),
+        unmarked who at (ask.Settle id false) (said (answer.Settled n)) (λ s stands. (
+          legal_reply who t (call.Fail id) is.legal may is.fits s stands ∙ ap (λ (k : ℕ). said (answer.Settled k)) (sym is.number),
           record {
             state = ap (λ (x : State). after x (commit.Failed who t id ∷ [])) stands.state ∙ sym is.state;
             out = λ k. out-without id k s.out ∙ ap (λ b. not (same_id k id) && b) (stands.out k) ∙ sym (out-without id k old.core.out) ∙ out_made who t (call.Fail id) k is.trail;
             greatest = sym is.greatest;
-            unstopped = unstopped_on s.trail (item.Made (commit.Failed who t id)) refl stands.unstopped;
-            unlimited = stands.unlimited;
+            trail = ap (λ (xs : List Item). xs ++ item.Made (commit.Failed who t id) ∷ []) stands.trail ∙ sym is.trail;
+            limited = stands.limited ∙ sym is.limit;
           },
-        )) (λ s stands. ap (λ (xs : List Item). xs ++ item.Made (commit.Failed who t id) ∷ []) stands.trail ∙ sym is.trail)
+        ))
 
   is_commit_made : (a : Call) (n : ℕ) → is_commit (said (made_answer a n)) ≡ true
   is_commit_made (call.Write w) n = refl
   is_commit_made (call.Ack id) n = refl
   is_commit_made (call.Fail id) n = refl
 
-  -- the same store at a later moment
-  at_later : (t : ℕ) → IsRaisedTo t old new → SameAt old.core t new.core
-  at_later t same = record { state = same.state; out = same.out; greatest = same.greatest }
+  -- a write that passes a limit is told so
+  pub limit_reply : (s : Situation) (who t : ℕ) (w : AtomicWrite) (passed : Limit) → write_limit w ≡ Some passed → StandsFor s old → reply_to s who t (ask.Write w) ≡ said (answer.Limit passed)
+  limit_reply s who t w passed is stands =
+      in_rows s who t w stands
+      ∙ ap (λ (o : Option Limit). rows o None (failing w (seen old.core.state t)) (result_err (mutated_all w (old.core.state.number + 1) t (seen old.core.state t)))
+      (nat_lt old.limit (weight (old.trail ++ item.Made (commit.Wrote who t w) ∷ []))) (full (weight old.trail) old.limit) (old.core.state.number + 1)) is
+
+  -- and leaves the moment too
+  limit_answers : (who at : ℕ) (w : AtomicWrite) (passed : Limit) → write_limit w ≡ Some passed → IsRaisedTo old.core.greatest old new → Answers old who at (ask.Write w) false (said (answer.Limit passed)) new
+  limit_answers who at w passed is same =
+      let t = effective_at old at in
+      unmarked who at (ask.Write w) (said (answer.Limit passed)) (λ s stands. (
+        limit_reply s who t w passed is stands,
+        record {
+          state = stands.state ∙ sym same.state;
+          out = λ k. stands.out k ∙ ap (λ (ids : List MsgId). is_out k ids) (sym same.out);
+          greatest = stands.greatest ∙ sym same.greatest;
+          trail = stands.trail ∙ sym same.trail;
+          limited = stands.limited ∙ sym same.limit;
+        },
+      ))
+
+  fails_answers : (who at : ℕ) (w : AtomicWrite) (places : List ℕ) → write_limit w ≡ None → failing w (seen old.core.state (effective_at old at)) ≡ places → places ≢ []
+      → IsRaisedTo (effective_at old at) old new → Answers old who at (ask.Write w) false (said (answer.Fails places)) new
+  fails_answers who at w places within is some same =
+      let t = effective_at old at in
+      let bad = result_err (mutated_all w (old.core.state.number + 1) t (seen old.core.state t)) in
+      let over = nat_lt old.limit (weight (old.trail ++ item.Made (commit.Wrote who t w) ∷ [])) in
+      unmarked who at (ask.Write w) (said (answer.Fails places)) (λ s stands. (
+        in_rows s who t w stands
+            ∙ (λ i. rows (within i) None (is i) bad over (full (weight old.trail) old.limit) (old.core.state.number + 1))
+            ∙ fails_row places bad over (full (weight old.trail) old.limit) (old.core.state.number + 1) some,
+        rises s t stands same,
+      ))
+
+  not_u64_answers : (who at : ℕ) (w : AtomicWrite) (index : ℕ) → write_limit w ≡ None → failing w (seen old.core.state (effective_at old at)) ≡ []
+      → mutated_all w (old.core.state.number + 1) (effective_at old at) (seen old.core.state (effective_at old at)) ≡ Err index
+      → IsRaisedTo (effective_at old at) old new → Answers old who at (ask.Write w) false (said (answer.NotU64 index)) new
+  not_u64_answers who at w index within checks is same =
+      let t = effective_at old at in
+      unmarked who at (ask.Write w) (said (answer.NotU64 index)) (λ s stands. (
+        in_rows s who t w stands
+            ∙ (λ i. rows (within i) None (checks i) (result_err (is i)) (nat_lt old.limit (weight (old.trail ++ item.Made (commit.Wrote who t w) ∷ []))) (full (weight old.trail) old.limit) (old.core.state.number + 1)),
+        rises s t stands same,
+      ))
 
   module _ (leased : (id : MsgId) → is_out id old.core.out ≡ is_out id (out old.trail)) (leased_new : (id : MsgId) → is_out id new.core.out ≡ is_out id (out new.trail)) where
     done_answers : (who at : ℕ) (a : Call) (d : Done) → may_ask old.core a ≡ true → IsDone old who (effective_at old at) a d new → AnswersCall old who at a (Ok d) new
     done_answers who at a (done.Committed n) may is = made leased leased_new who at n a may is
-    done_answers who at (call.Write w) (done.Fails places) may is =
-        unmarked who at (ask.Write w) (answer.Fails places) (write_fails old.core new.core who (effective_at old at) w places (is.0.0.0, is.0.1, is.0.2) (at_later _ is.1)) (λ s stands. stands.trail ∙ sym is.1.trail)
+    done_answers who at (call.Write w) (done.Fails places) may is = fails_answers who at w places is.0.0.0 is.0.1 is.0.2 is.1
     done_answers who at (call.Ack id) (done.Fails places) may is = absurd is.0
     done_answers who at (call.Fail id) (done.Fails places) may is = absurd is.0
-    done_answers who at (call.Write w) (done.NotU64 index) may is =
-        unmarked who at (ask.Write w) (answer.NotU64 index) (write_not_u64 old.core new.core who (effective_at old at) w index (is.0.0.0, is.0.1, is.0.2) (at_later _ is.1)) (λ s stands. stands.trail ∙ sym is.1.trail)
+    done_answers who at (call.Write w) (done.NotU64 index) may is = not_u64_answers who at w index is.0.0.0 is.0.1 is.0.2 is.1
     done_answers who at (call.Ack id) (done.NotU64 index) may is = absurd is.0
     done_answers who at (call.Fail id) (done.NotU64 index) may is = absurd is.0
-    done_answers who at (call.Write w) (done.Limit passed) may is =
-        unmarked who at (ask.Write w) (answer.Limit passed)
-        (write_limited old.core new.core who (effective_at old at) w passed is.0 (record { state = is.1.state; out = is.1.out; greatest = is.1.greatest })) (λ s stands. stands.trail ∙ sym is.1.trail)
+    done_answers who at (call.Write w) (done.Limit passed) may is = limit_answers who at w passed is.0 is.1
     done_answers who at (call.Ack id) (done.Limit passed) may is = absurd is.0
     done_answers who at (call.Fail id) (done.Limit passed) may is = absurd is.0
 
+    -- the numbers of a full trail are the store's
+    full_is : (bytes limit : ℕ) → bytes ≡ weight old.trail → limit ≡ old.limit → full (weight old.trail) old.limit ≡ full bytes limit
+    full_is bytes limit same_bytes same_limit = λ i. full (sym same_bytes i) (sym same_limit i)
+
     refusal_answers : (who at : ℕ) (a : Call) (e : Refusal) → may_ask old.core a ≡ true → IsRefused old who (effective_at old at) a e new → AnswersCall old who at a (Err e) new
     refusal_answers who at a refusal.DiskFault may is =
-        marked who at (ask_of a) (made_answer a (old.core.state.number + 1)) (is_commit_made a (old.core.state.number + 1)) (legal_reply who (effective_at old at) a is.0 may) is.1
+        marked who at (ask_of a) (made_answer a (old.core.state.number + 1)) (is_commit_made a (old.core.state.number + 1)) (legal_reply who (effective_at old at) a is.0 may is.3) is.1
     refusal_answers who at (call.Write w) (refusal.Stopped place) may is = absurd (cc (none, is.0.1))
     refusal_answers who at (call.Ack id) (refusal.Stopped place) may is = absurd is.0
     refusal_answers who at (call.Fail id) (refusal.Stopped place) may is = absurd is.0
+    refusal_answers who at (call.Write w) (refusal.Full bytes limit) may is =
+        let t = effective_at old at in
+        unmarked who at (ask.Write w) (full bytes limit) (λ s stands. (heavy_reply who t w is.0 s stands ∙ full_is bytes limit is.1 is.2, rises s t stands is.3))
+    refusal_answers who at (call.Ack id) (refusal.Full bytes limit) may is = absurd is.0
+    refusal_answers who at (call.Fail id) (refusal.Full bytes limit) may is = absurd is.0
     refusal_answers who at a refusal.NoMemory may is = is
 
     -- a commit answers as the one-thread database does, but for disk faults and want of memory
@@ -193,36 +271,3 @@ module _ {D : Type 0} (old new : Contents D) (none : first_stop old.trail ≡ No
         → MatchResult r (λ d. IsDone old who (effective_at old at) a d new) (λ e. IsRefused old who (effective_at old at) a e new) → AnswersCall old who at a r new
     call_answers who at a (Ok d) may is = done_answers who at a d may is
     call_answers who at a (Err e) may is = refusal_answers who at a e may is
-
-  -- ---- reads and takes
-
-  -- a read within its limits
-  pub read_answers : (who at : ℕ) (ranges : List ReadRange) → read_limit ranges ≡ None → new ≡ record old { core = record old.core { greatest = effective_at old at } }
-      → Answers old who at (ask.Read ranges) false (said (answer.Entries (read_reply old.core.state (effective_at old at) ranges))) new
-  read_answers who at ranges within same =
-      let t = effective_at old at in
-      unmarked who at (ask.Read ranges) (answer.Entries (read_reply old.core.state t ranges))
-      (read_given old.core new.core who t ranges (read_reply old.core.state t ranges) within refl (record {
-        state = ap (λ (c : Contents D). c.core.state) same;
-        out = ap (λ (c : Contents D). c.core.out) same;
-        greatest = ap (λ (c : Contents D). c.core.greatest) same;
-      })) (λ s stands. stands.trail ∙ ap (λ (c : Contents D). c.trail) (sym same))
-
-  -- a take of the message that is due, and one that finds none
-  pub leased_answers : (who at : ℕ) (m : Message) → IsTake old who (effective_at old at) (taken.Leased m) new → Answers old who at ask.Take false (said (answer.Leased m)) new
-  leased_answers who at m is =
-      unmarked who at ask.Take (answer.Leased m) (take_leased old.core new.core who (effective_at old at) m is.0.0 is.0.1 is.0.2)
-      (λ s stands. ap (λ (xs : List Item). xs ++ item.Took who (effective_at old at) m.id ∷ []) stands.trail ∙ sym is.1)
-
-  pub nothing_answers : (who at : ℕ) (moment : Option ℕ) → IsTake old who (effective_at old at) (taken.Nothing moment) new → Answers old who at ask.Take false (said (answer.Nothing moment)) new
-  nothing_answers who at moment is =
-      unmarked who at ask.Take (answer.Nothing moment) (take_nothing old.core new.core who (effective_at old at) moment is.0.0 is.0.1 is.0.2) (λ s stands. stands.trail ∙ sym is.1)
-
-  -- a take
-  pub take_answers : (who at : ℕ) (r : Result Taken Refusal) → IfOk r (λ x. IsTake old who (effective_at old at) x new) → MatchResult r (λ x. ⊤) (λ e. (e ≡ refusal.NoMemory) × IsRaisedTo old.core.greatest old new)
-      → AnswersTake old who at r new
-  take_answers who at (Ok (taken.Leased m)) is short = leased_answers who at m is
-  take_answers who at (Ok (taken.Nothing next)) is short = nothing_answers who at next is
-  take_answers who at (Err refusal.DiskFault) is short = absurd (cc short.0)
-  take_answers who at (Err (refusal.Stopped place)) is short = absurd (cc short.0)
-  take_answers who at (Err refusal.NoMemory) is short = inl short.1

@@ -105,6 +105,7 @@ module _ {D : Type 0} (seen : D → Option (List ℕ)) (images : D → List ℕ 
     trail = sym (append-nil s.trail);
     base = refl;
     who = refl;
+    limit = refl;
     a_first = refl;
     b_first = refl;
     later = omega arith;
@@ -115,10 +116,11 @@ module _ {D : Type 0} (seen : D → Option (List ℕ)) (images : D → List ℕ 
   }
 
   module _ (start old new : Contents D) (doubts : List (ℕ × Commit)) (g : GoesOn seen images moment since doubts start old) where
-    -- no call has another base, other files at its start or another identity
+    -- no call has another base, limit or identity, or other files at its start
     pub record Stays : Type 0 where
       pub base : new.base ≡ old.base
       pub who : new.who ≡ old.who
+      pub limit : new.limit ≡ old.limit
       pub a_first : new.a_first ≡ old.a_first
       pub b_first : new.b_first ≡ old.b_first
       pub b : new.b ≡ old.b
@@ -164,6 +166,7 @@ module _ {D : Type 0} (seen : D → Option (List ℕ)) (images : D → List ℕ 
         trail = grown xs trail;
         base = same.base ∙ g.base;
         who = same.who ∙ g.who;
+        limit = same.limit ∙ g.limit;
         a_first = same.a_first ∙ g.a_first;
         b_first = same.b_first ∙ g.b_first;
         later = omega (arith, same.later, g.later);
@@ -220,6 +223,7 @@ module _ {D : Type 0} (seen : D → Option (List ℕ)) (images : D → List ℕ 
           trail = grown xs trail;
           base = same.base ∙ g.base;
           who = same.who ∙ g.who;
+          limit = same.limit ∙ g.limit;
           a_first = same.a_first ∙ g.a_first;
           b_first = same.b_first ∙ g.b_first;
           later = omega (arith, same.later, g.later);

@@ -12,10 +12,10 @@ use Rattle.dkv_base.specs.declared.types.Item.TheVariants as item
 use Rattle.dkv_base.specs.State.{State}
 use Rattle.dkv_base.specs.Messages.{moment_of, is_out, next}
 use Rattle.dkv_base.specs.After.{after, is_legal_in}
-use Rattle.dkv_base.specs.Trails.{commits, greatest, out, first_stop, is_legal_trail}
+use Rattle.dkv_base.specs.Trails.{commits, greatest, out, weight, first_stop, is_legal_trail}
 use Rattle.dkv_base.specs.Sound.{IsSound}
 use Rattle.dkv_base.proofs.AfterNothing.{after_nothing}
-use Rattle.dkv_core.specs.Runs.{no_limit}
+use Rattle.dkv_base.proofs.StaysSound.{after_is_sound}
 use Rattle.dkv_base.proofs.LongerTrails.{commits-push}
 use Rattle.dkv_core.specs.Cores.{Database, Change, applied}
 use Rattle.dkv_core.specs.Decisions.{commit_of, Goes}
@@ -29,7 +29,8 @@ use Rattle.dkv_journal.specs.declared.journal.Journal.{Journal}
 use Rattle.dkv_files.specs.Crashes.{Identity, and_then}
 use Rattle.dkv_store.specs.Held.{Hold, Guarded}
 use Rattle.dkv_store.specs.Stores.{Contents, Keeps, is_doubt}
-use Rattle.dkv_store.proofs.Trailing.{count_push, leased_doubt, leased_made, legal_doubt, legal_made, state_made, unstopped_on, moments_on, leased_took, legal_took, next_same}
+use Rattle.dkv_store.specs.Trails.{FitsIn}
+use Rattle.dkv_store.proofs.Trailing.{legal_parts, count_push, leased_doubt, leased_made, legal_doubt, legal_made, state_made, unstopped_on, moments_on, leased_took, legal_took, next_same}
 
 made_at : (who t : ℕ) (a : Call) → moment_of (commit_of who t a) ≡ t
 made_at who t (call.Write w) = refl
@@ -37,12 +38,12 @@ made_at who t (call.Ack id) = refl
 made_at who t (call.Fail id) = refl
 
 module _ {D : Type 0} (sees : D → Option (List ℕ)) (images : D → List ℕ → Type 0) (faults : D → ℕ) (j j_end : Journal)
-    (base : State) (core core_end : Database) (trail trail_end : List Item) (lost lost_end : List MsgId) (doubt doubt_end : Option Commit) (me : Identity) (a a_end b b_end a_first b_first : D)
-    (kept : Keeps sees images faults j (record { base = base; core = core; trail = trail; roomless = lost; doubt = doubt; who = me; a = a; b = b; a_first = a_first; b_first = b_first }))
+    (base : State) (core core_end : Database) (trail trail_end : List Item) (lost lost_end : List MsgId) (doubt doubt_end : Option Commit) (me : Identity) (limit n n_end : ℕ) (a a_end b b_end a_first b_first : D)
+    (kept : Keeps sees images faults j (record { base = base; core = core; trail = trail; roomless = lost; doubt = doubt; who = me; limit = limit; record_bytes = n; a = a; b = b; a_first = a_first; b_first = b_first }))
     (who t : ℕ) (asked : Call) (p : Change) (goes : Goes core who t asked p)
     (named : j_end.in_doubt ≡ is_some doubt_end) (other : b_end ≡ b) where
   abbrev Kept : List Item → Type 0
-  Kept items = Keeps sees images faults j_end (record { base = base; core = core_end; trail = items; roomless = lost_end; doubt = doubt_end; who = me; a = a_end; b = b_end; a_first = a_first; b_first = b_first })
+  Kept items = Keeps sees images faults j_end (record { base = base; core = core_end; trail = items; roomless = lost_end; doubt = doubt_end; who = me; limit = limit; record_bytes = n_end; a = a_end; b = b_end; a_first = a_first; b_first = b_first })
 
   late : greatest base trail ≤ t
   late = omega (arith, kept.moments, goes.ready.moment.late, goes.moment)
@@ -57,7 +58,7 @@ module _ {D : Type 0} (sees : D → Option (List ℕ)) (images : D → List ℕ 
       subst Kept (sym trail_is) (record {
         sound = kept.sound;
         state = state ∙ kept.state ∙ ap (after base) (sym (commits-push trail x ∙ append-nil (commits trail)));
-        legal = legal_doubt base trail kept.legal who t late;
+        legal = legal_doubt base limit trail kept.legal who t late;
         leased = λ k. ap (is_out k) out_is ∙ leased_doubt base trail core.out kept.leased who t k;
         unstopped = unstopped_on trail x refl kept.unstopped;
         moments = moments_on base trail x core_end.greatest (omega (arith, greatest_is));
@@ -67,9 +68,9 @@ module _ {D : Type 0} (sees : D → Option (List ℕ)) (images : D → List ℕ 
       })
 
   -- after a commit it is in the state and in the trail
-  pub kept_made : core_end.state ≡ applied p core.state → core_end.out ≡ out_after p.settled core.out → core_end.greatest ≡ p.moment → trail_end ≡ trail ++ item.Made (commit_of who t asked) ∷ [] → faults a ≤ faults a_end
+  pub kept_made : core_end.state ≡ applied p core.state → core_end.out ≡ out_after p.settled core.out → core_end.greatest ≡ p.moment → trail_end ≡ trail ++ item.Made (commit_of who t asked) ∷ [] → faults a ≤ faults a_end → FitsIn limit trail (commit_of who t asked)
       → ((fa : List ℕ) → sees a_end ≡ Some fa → Hold (images a_end) (Guarded (sees b_end) (images b_end)) j_end doubt_end (and_then core.state (commit_of who t asked)) me) → Kept trail_end
-  kept_made state out_is greatest_is trail_is later stands =
+  kept_made state out_is greatest_is trail_is later fits stands =
       let x = item.Made (commit_of who t asked) in
       let counted = count_push is_doubt trail x in
       let same_b = ap faults other in
@@ -78,8 +79,8 @@ module _ {D : Type 0} (sees : D → Option (List ℕ)) (images : D → List ℕ 
       let held = subst (λ (o : Option Settled). IsTrue (option_map_or (λ s. is_out s.id core.out) o true)) goes.settles goes.ready.settles in
       subst Kept (sym trail_is) (record {
         sound = kept.sound;
-        state = state ∙ goes.makes ∙ ap (λ (s : State). after s (commit_of who t asked ∷ [])) kept.state ∙ sym (state_made base trail kept.legal kept.sound who t asked free late);
-        legal = legal_made base trail kept.legal kept.sound who t asked free late kept.unstopped core.out kept.leased held;
+        state = state ∙ goes.makes ∙ ap (λ (s : State). after s (commit_of who t asked ∷ [])) kept.state ∙ sym (state_made base limit trail kept.legal kept.sound who t asked free late);
+        legal = legal_made base limit trail kept.legal kept.sound who t asked free late kept.unstopped core.out kept.leased held fits;
         leased = λ k. ap (is_out k) (out_is ∙ ap (λ (o : Option Settled). out_after o core.out) goes.settles) ∙ leased_made base trail core.out kept.leased asked who t k;
         unstopped = unstopped_on trail x refl kept.unstopped;
         moments = moments_on base trail x core_end.greatest (omega (arith, greatest_is, goes.moment, at));
@@ -90,13 +91,13 @@ module _ {D : Type 0} (sees : D → Option (List ℕ)) (images : D → List ℕ 
 
 -- after a take its item stands in the trail
 module _ {D : Type 0} (sees : D → Option (List ℕ)) (images : D → List ℕ → Type 0) (faults : D → ℕ) (j : Journal)
-    (base : State) (core core_end : Database) (trail trail_end : List Item) (lost lost_end : List MsgId) (doubt : Option Commit) (me : Identity) (a b a_first b_first : D)
-    (kept : Keeps sees images faults j (record { base = base; core = core; trail = trail; roomless = lost; doubt = doubt; who = me; a = a; b = b; a_first = a_first; b_first = b_first })) where
+    (base : State) (core core_end : Database) (trail trail_end : List Item) (lost lost_end : List MsgId) (doubt : Option Commit) (me : Identity) (limit n : ℕ) (a b a_first b_first : D)
+    (kept : Keeps sees images faults j (record { base = base; core = core; trail = trail; roomless = lost; doubt = doubt; who = me; limit = limit; record_bytes = n; a = a; b = b; a_first = a_first; b_first = b_first })) where
   abbrev Taking : List Item → Type 0
-  Taking items = Keeps sees images faults j (record { base = base; core = core_end; trail = items; roomless = lost_end; doubt = doubt; who = me; a = a; b = b; a_first = a_first; b_first = b_first })
+  Taking items = Keeps sees images faults j (record { base = base; core = core_end; trail = items; roomless = lost_end; doubt = doubt; who = me; limit = limit; record_bytes = n; a = a; b = b; a_first = a_first; b_first = b_first })
 
-  pub kept_took : (who t : ℕ) (m : Message) → core.greatest ≤ t → IsTaken core t (taken.Leased m) core_end → trail_end ≡ trail ++ item.Took who t m.id ∷ [] → Taking trail_end
-  kept_took who t m late is trail_is =
+  pub kept_took : (who t : ℕ) (m : Message) → core.greatest ≤ t → IsTaken core t (taken.Leased m) core_end → trail_end ≡ trail ++ item.Took who t m.id ∷ [] → weight (trail ++ item.Took who t m.id ∷ []) ≤ limit → Taking trail_end
+  kept_took who t m late is trail_is fits =
       let x = item.Took who t m.id in
       let state = is.2.state in
       let at = is.2.greatest in
@@ -105,7 +106,7 @@ module _ {D : Type 0} (sees : D → Option (List ℕ)) (images : D → List ℕ 
       subst Taking (sym trail_is) (record {
         sound = kept.sound;
         state = state ∙ kept.state ∙ ap (after base) (sym (commits-push trail x ∙ append-nil (commits trail)));
-        legal = legal_took base trail kept.legal who t m (omega (arith, kept.moments, late)) kept.unstopped due;
+        legal = legal_took base limit trail kept.legal who t m (omega (arith, kept.moments, late)) kept.unstopped due fits;
         leased = λ k. is.1 k ∙ leased_took base trail core.out kept.leased who t m.id k;
         unstopped = unstopped_on trail x refl kept.unstopped;
         moments = moments_on base trail x core_end.greatest (omega (arith, at));
@@ -116,17 +117,21 @@ module _ {D : Type 0} (sees : D → Option (List ℕ)) (images : D → List ℕ 
 
 -- where a term begins
 pub kept_begun : {D : Type 0} (sees : D → Option (List ℕ)) (images : D → List ℕ → Type 0) (faults : D → ℕ) (j : Journal) (s : Contents D)
-    → IsSound s.core.state → s.core.out ≡ [] → s.core.state.moment ≤ s.core.greatest → j.in_doubt ≡ false
-    → s.base ≡ s.core.state → s.trail ≡ [] → s.doubt ≡ None → s.a_first ≡ s.a → s.b_first ≡ s.b
-    → ((fa : List ℕ) → sees s.a ≡ Some fa → Hold (images s.a) (Guarded (sees s.b) (images s.b)) j None s.core.state s.who) → Keeps sees images faults j s
-kept_begun {D} sees images faults j s sound none late sure base trail doubt a b stands = record {
+    → IsSound s.core.state → s.core.out ≡ [] → s.core.state.moment ≤ s.core.greatest → j.in_doubt ≡ is_some s.doubt
+    → s.base ≡ s.core.state → s.trail ≡ [] → s.a_first ≡ s.a → s.b_first ≡ s.b
+    → ((fa : List ℕ) → sees s.a ≡ Some fa → Hold (images s.a) (Guarded (sees s.b) (images s.b)) j s.doubt s.core.state s.who) → Keeps sees images faults j s
+kept_begun {D} sees images faults j s sound none late named base trail a b stands = record {
   sound = subst IsSound (sym base) sound;
   state = sym ((λ i. after (base i) (commits (trail i))) ∙ after_nothing s.core.state sound);
-  legal = subst (λ (l : List Item). IsTrue (is_legal_trail s.base no_limit l)) (sym trail) refl;
+  legal = subst (λ (l : List Item). IsTrue (is_legal_trail s.base s.limit l)) (sym trail) refl;
   leased = λ k. ap (is_out k) none ∙ ap (λ (l : List Item). is_out k (out l)) (sym trail);
   unstopped = ap first_stop trail;
   moments = subst (λ (l : List Item). greatest s.base l ≤ s.core.greatest) (sym trail) (subst (λ (x : State). x.moment ≤ s.core.greatest) (sym base) late);
   doubts = λ low_a low_b. let same_a = ap faults a in let same_b = ap faults b in let counted = ap (count_by is_doubt) trail in omega (arith, same_a, same_b, counted);
-  named = sure ∙ sym (ap is_some doubt);
-  stands = λ fa told. subst (λ (o : Option Commit). Hold (images s.a) (Guarded (sees s.b) (images s.b)) j o s.core.state s.who) (sym doubt) (stands fa told);
+  named = named;
+  stands = stands;
 }
+
+-- the state of a store is sound
+pub kept_sound : {D : Type 0} (sees : D → Option (List ℕ)) (images : D → List ℕ → Type 0) (faults : D → ℕ) (j : Journal) (s : Contents D) → Keeps sees images faults j s → IsSound s.core.state
+kept_sound sees images faults j s kept = subst IsSound (sym kept.state) (after_is_sound s.base (commits s.trail) kept.sound (legal_parts s.base s.limit s.trail kept.legal).0)

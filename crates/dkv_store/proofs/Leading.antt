@@ -1,6 +1,6 @@
 -- Each call of a store leads on within its term.
 use Rattle.std.proofs.Common.{◌≡◌, ◌⊎◌, Result, Ok, Err, inl, inr, append_assoc, lit<, ℕ, zero, ◌+◌, ◌≤◌, List, [], ◌∷◌, ◌++◌, length, take, Option, Some, None, refl, sym, ap, subst, ◌∙◌, arith}
-use Rattle.std.specs.Prelude.{IsTrue, max, MatchResult, IfOk, ⊤}
+use Rattle.std.specs.Prelude.{IsTrue, max, MatchResult, IfOk, IfErr}
 use Rattle.std.specs.Option.{option_map_or}
 use Rattle.std.specs.List.{Contains}
 use Rattle.std.proofs.lemmas.List.{append-nil, take-append-le, length-append}
@@ -28,8 +28,9 @@ use Rattle.dkv_store.specs.declared.answers.Refusal.TheVariants as refusal
 use Rattle.dkv_core.specs.Decisions.{commit_of}
 use Rattle.dkv_core.specs.declared.takes.Taken.{Taken}
 use Rattle.dkv_core.specs.declared.takes.Taken.TheVariants as taken
-use Rattle.dkv_store.specs.Stores.{Contents, IsDone, IsRefused, IsMade, IsDoubtful, IsRaised, IsRaisedTo, IsOldOrNew, IsTake, SameDisks}
+use Rattle.dkv_store.specs.Stores.{Contents, IsDone, IsRefused, IsMade, IsDoubtful, IsRaised, IsRaisedTo, IsOldOrNew, IsNotTaken, IsTake, SameDisks}
 use Rattle.dkv_store.specs.Terms.{GoesOn, Leads, left_in_doubt}
+use Rattle.dkv_store.proofs.Answering.{raised_alone}
 use Rattle.dkv_store.proofs.Going.{goes_made, goes_doubt, goes_on}
 
 module _ {D : Type 0} (seen : D → Option (List ℕ)) (images : D → List ℕ → Type 0) (moment : D → ℕ) (since : D → ℕ → List ℕ → Type 0) where
@@ -45,6 +46,7 @@ module _ {D : Type 0} (seen : D → Option (List ℕ)) (images : D → List ℕ 
         (goes_on seen images moment since start old new doubts g [] (record {
           base = is.base;
           who = is.who;
+          limit = is.limit;
           a_first = first.0;
           b_first = first.1;
           b = is.b;
@@ -64,6 +66,7 @@ module _ {D : Type 0} (seen : D → Option (List ℕ)) (images : D → List ℕ 
           (goes_made seen images moment since start old new doubts g t n (commit_of who t a) (record {
             base = is.base;
             who = is.who;
+            limit = is.limit;
             a_first = first.0;
             b_first = first.1;
             b = b;
@@ -75,6 +78,7 @@ module _ {D : Type 0} (seen : D → Option (List ℕ)) (images : D → List ℕ 
           goes_doubt seen images moment since start old new doubts g who t (commit_of who t a) (record {
             base = is.base;
             who = is.identity;
+            limit = is.limit;
             a_first = first.0;
             b_first = first.1;
             b = b;
@@ -90,6 +94,7 @@ module _ {D : Type 0} (seen : D → Option (List ℕ)) (images : D → List ℕ 
       commit_leads (Ok (done.Limit passed)) is doubted = raised_leads old.core.greatest (omega arith) is.1
       commit_leads (Err refusal.DiskFault) is doubted = doubt_leads is.1 (doubted refl)
       commit_leads (Err (refusal.Stopped place)) is doubted = raised_leads t late is.1
+      commit_leads (Err (refusal.Full bytes limit)) is doubted = raised_leads t late is.3
       commit_leads (Err refusal.NoMemory) is doubted = may_rise_leads t late is
 
   -- a take adds the message that it gives to what is out
@@ -100,6 +105,7 @@ module _ {D : Type 0} (seen : D → Option (List ℕ)) (images : D → List ℕ 
         (goes_on seen images moment since start old new doubts g (item.Took who t m.id ∷ []) (record {
           base = same.base;
           who = same.who;
+          limit = same.limit;
           a_first = same.a_first;
           b_first = same.b_first;
           b = same.b;
@@ -110,28 +116,21 @@ module _ {D : Type 0} (seen : D → Option (List ℕ)) (images : D → List ℕ 
         (goes_on seen images moment since start old new doubts g [] (record {
           base = same.base;
           who = same.who;
+          limit = same.limit;
           a_first = same.a_first;
           b_first = same.b_first;
           b = same.b;
           later = subst (λ (k : ℕ). old.core.greatest ≤ k) (sym is.0.2.greatest) late;
         }) (is.1 ∙ sym (append-nil old.trail)) refl same.doubt same.a)
 
-    pub take_leads : (who t : ℕ) (result : Result Taken Refusal) → old.core.greatest ≤ t → IfOk result (λ r. IsTake old who t r new) → MatchResult result (λ r. ⊤) (λ e. (e ≡ refusal.NoMemory) × IsRaisedTo old.core.greatest old new) → Leads seen images moment since [] old new
+    pub take_leads : (who t : ℕ) (result : Result Taken Refusal) → old.core.greatest ≤ t → IfOk result (λ r. IsTake old who t r new) → IfErr result (λ e. IsNotTaken old who t e new) → Leads seen images moment since [] old new
     take_leads who t (Ok r) late is short = took_leads who t r late is
-    take_leads who t (Err e) late is short = raised_leads old new (same.a_first, same.b_first) old.core.greatest (omega arith) short.1
+    take_leads who t (Err refusal.DiskFault) late is short = absurd short
+    take_leads who t (Err (refusal.Stopped place)) late is short = raised_leads old new (same.a_first, same.b_first) t late short.1
+    take_leads who t (Err (refusal.Full bytes limit)) late is short = raised_leads old new (same.a_first, same.b_first) t late short.5
+    take_leads who t (Err refusal.NoMemory) late is short = raised_leads old new (same.a_first, same.b_first) old.core.greatest (omega arith) short
 
   -- a read changes the greatest moment alone
   pub read_leads : (old new : Contents D) (t : ℕ) → old.core.greatest ≤ t → new ≡ record old { core = record old.core { greatest = t } } → Leads seen images moment since [] old new
   read_leads old new t late is =
-      raised_leads old new (ap (λ (c : Contents D). c.a_first) is, ap (λ (c : Contents D). c.b_first) is) t late (record {
-        base = ap (λ (c : Contents D). c.base) is;
-        state = ap (λ (c : Contents D). c.core.state) is;
-        out = ap (λ (c : Contents D). c.core.out) is;
-        greatest = ap (λ (c : Contents D). c.core.greatest) is;
-        trail = ap (λ (c : Contents D). c.trail) is;
-        roomless = ap (λ (c : Contents D). c.roomless) is;
-        doubt = ap (λ (c : Contents D). c.doubt) is;
-        who = ap (λ (c : Contents D). c.who) is;
-        a = ap (λ (c : Contents D). c.a) is;
-        b = ap (λ (c : Contents D). c.b) is;
-      })
+      raised_leads old new (ap (λ (c : Contents D). c.a_first) is, ap (λ (c : Contents D). c.b_first) is) t late (raised_alone old new t is)

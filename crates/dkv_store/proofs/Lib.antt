@@ -9,5 +9,6 @@ pub mod Results
 pub mod Standing
 pub mod Trailing
 pub mod Answering
+pub mod Taking
 pub mod Going
 pub mod Leading

@@ -1,6 +1,6 @@
 -- A store that was opened stands on what its two files recover to.
-use Rattle.std.proofs.Common.{◌≡◌, refl, sym, ◌∙◌, ap, subst, inl, ℕ, true, false, ◌==◌, nat_lt, List, length, Option, None, Some, Ok, Err, Result, arith}
-use Rattle.std.specs.Prelude.{IfOk, IfErr, OnOk}
+use Rattle.std.proofs.Common.{◌≡◌, refl, sym, ◌∙◌, ap, subst, inl, ℕ, ◌+◌, ◌-◌, ◌≤◌, Bool, true, false, not, ◌&&◌, ◌||◌, ◌==◌, nat_lt, List, length, Option, None, Some, Ok, Err, Result, arith}
+use Rattle.std.specs.Prelude.{IfOk, IfErr, OnOk, if◌then◌else◌}
 use Rattle.std.proofs.lemmas.Bool.Decides.{nat_tests}
 use Rattle.dkv_base.specs.declared.types.Commit.{Commit}
 use Rattle.dkv_base.specs.declared.types.Profile.TheVariants.{Narrow}
@@ -12,11 +12,11 @@ use Rattle.dkv_core.specs.Cores.{Database}
 use Rattle.dkv_io.specs.Disks.{Only}
 use Rattle.dkv_journal.specs.Records.{End, at_closed, at_damaged, first_layout, scanned_at, is_closed_at}
 use Rattle.dkv_journal.specs.declared.journal.Journal.{Journal}
-use Rattle.dkv_journal.proofs.Ends.{scan_closed}
+use Rattle.dkv_journal.proofs.Ends.{not_before, scan_closed, scan_place}
 use Rattle.dkv_msgs.specs.Readings.{reads_atomic_write}
 use Rattle.dkv_files.specs.declared.head.FileHead.{FileHead}
-use Rattle.dkv_files.specs.Files.{is_open, image_length, generation_of, id_of, secret_of, layout_of}
-use Rattle.dkv_files.specs.Recovered.{Found, Recovery, found, damaged, from_file, from_records, last_gate, settled, first_opening, FirstOpening}
+use Rattle.dkv_files.specs.Files.{is_open, first_gate, image_length, generation_of, id_of, secret_of, layout_of}
+use Rattle.dkv_files.specs.Recovered.{Found, Recovery, found, damaged, from_file, from_records, last_gate, used_file, settled, first_opening, FirstOpening}
 use Rattle.dkv_files.specs.Crashes.{Identity, identity, read}
 use Rattle.dkv_files.proofs.Plain.{layout_is, gate_is, header_stands, plain_read, is_plain}
 use Rattle.dkv_files.proofs.Used.{first}
@@ -82,6 +82,17 @@ module _ (fa : List ℕ) (head : FileHead) (core : Database) (journal : Journal)
     used = λ x now. subst (λ (z : List ℕ). RestsAt f (generation_of fa) journal.place z) (sym (only x now)) rests;
     other = λ y now. inl (shut y now);
   }
+
+  -- the gate behind the records, which begin at the first
+  pub bytes_read : (fb : List ℕ) (n : ℕ) → is_open fb ≡ false → n ≡ journal.place - first_place → last_gate (used_file fa fb) ≡ first_gate (used_file fa fb) + n
+  bytes_read fb n shut is =
+      let used : used_file fa fb ≡ fa = ap (λ (v : Bool). if v && (not (is_open fa) || nat_lt (generation_of fa) (generation_of fb)) then fb else fa) shut in
+      let gate : first_gate fa ≡ first_place = gate_is fa held.opened held.stands held.long held.image held.new in
+      let at : last_gate fa ≡ journal.place = rests.rests.gate in
+      let from : first_place ≤ journal.place = subst (λ (p : ℕ). first_place ≤ p) (sym held.place)
+      (subst (λ (p : ℕ). first_place ≤ p) (sym (scan_place first_layout first_place fa)) (not_before first_layout first_place (scanned_at first_layout first_place fa).bodies)) in
+      let one : last_gate fa ≡ first_gate fa + n = omega (arith, gate, at, from, is) in
+      subst (λ (x : List ℕ). last_gate x ≡ first_gate x + n) (sym used) one
 
   pub both_read : (fb : List ℕ) → is_open fb ≡ false → read fa fb ≡ found f
   both_read fb shut = first known_first reads_atomic_write fa fb (header_stands fa held.opened held.stands held.long held.image held.new) (inl shut) ∙ file_read

@@ -68,7 +68,7 @@ places_without lost id (x ∷ ids) free =
       | false ↦ λ e. refl
     ] refl
 
-grown_out : (x id : MsgId) (lost : List MsgId) → is_out x (lost ++ id ∷ []) ≡ (is_out x lost || same_id x id)
+pub grown_out : (x id : MsgId) (lost : List MsgId) → is_out x (lost ++ id ∷ []) ≡ (is_out x lost || same_id x id)
 grown_out x id lost = list_any-append (same_id x) lost (id ∷ []) ∙ ap (λ b. is_out x lost || b) (or_false (same_id x id))
 
 one_or : (a b : Bool) → one (a || b) ≤ one a

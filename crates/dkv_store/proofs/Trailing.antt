@@ -25,7 +25,7 @@ use Rattle.dkv_base.proofs.LongerTrails.{commits-push, out-push}
 use Rattle.dkv_base.proofs.NamedMessages.{same_id-true, same_id_self}
 use Rattle.dkv_core.specs.Decisions.{commit_of, settled_by}
 use Rattle.dkv_core.specs.Settling.{out_after}
-use Rattle.dkv_core.specs.Runs.{no_limit}
+use Rattle.dkv_store.specs.Trails.{FitsIn}
 use Rattle.dkv_store.proofs.Holding.{legal_more, after_more}
 
 -- ---- counts, stops and items
@@ -128,43 +128,43 @@ module _ (base : State) (trail : List Item) (core_out : List MsgId) (leased : (i
 greatest_on : (base : State) (trail : List Item) (x : Item) → greatest base (trail ++ x ∷ []) ≡ item_moment x
 greatest_on base trail x = fold-append (λ _ y. item_moment y) base.moment trail (x ∷ [])
 
-module _ (base : State) (trail : List Item) (legal : is_legal_trail base no_limit trail ≡ true) where
-  parts : (is_legal base (commits trail) ≡ true) × (items_legal_from base no_limit [] trail ≡ true)
-  parts = and_parts (is_legal base (commits trail)) (items_legal_from base no_limit [] trail) legal
+module _ (base : State) (limit : ℕ) (trail : List Item) (legal : is_legal_trail base limit trail ≡ true) where
+  pub legal_parts : (is_legal base (commits trail) ≡ true) × (items_legal_from base limit [] trail ≡ true)
+  legal_parts = and_parts (is_legal base (commits trail)) (items_legal_from base limit [] trail) legal
 
-  trail_on : (x : Item) → is_legal base (commits trail ++ commits_of x) ≡ true → greatest base trail ≤ item_moment x → may_stand base no_limit trail x ≡ true
-      → is_legal_trail base no_limit (trail ++ x ∷ []) ≡ true
+  trail_on : (x : Item) → is_legal base (commits trail ++ commits_of x) ≡ true → greatest base trail ≤ item_moment x → may_stand base limit trail x ≡ true
+      → is_legal_trail base limit (trail ++ x ∷ []) ≡ true
   trail_on x all late stands =
       and_from _ _ (ap (is_legal base) (commits-push trail x) ∙ all)
-      (items_push base no_limit [] trail x ∙ and_from _ _ parts.1 (and_from _ _ (le-leb (greatest base trail) (item_moment x) late) stands))
+      (items_push base limit [] trail x ∙ and_from _ _ legal_parts.1 (and_from _ _ (le-leb (greatest base trail) (item_moment x) late) stands))
 
-  pub legal_doubt : (who t : ℕ) → greatest base trail ≤ t → is_legal_trail base no_limit (trail ++ item.Doubt who t ∷ []) ≡ true
-  legal_doubt who t late = trail_on (item.Doubt who t) (ap (is_legal base) (append-nil (commits trail)) ∙ parts.0) late refl
+  pub legal_doubt : (who t : ℕ) → greatest base trail ≤ t → is_legal_trail base limit (trail ++ item.Doubt who t ∷ []) ≡ true
+  legal_doubt who t late = trail_on (item.Doubt who t) (ap (is_legal base) (append-nil (commits trail)) ∙ legal_parts.0) late refl
 
-  room : (x : Item) → first_stop trail ≡ None → has_room no_limit trail x ≡ true
-  room x none = and_from _ _ (ap not (no_stop 0 trail none)) (le-leb (weight (trail ++ x ∷ [])) no_limit (omega arith))
+  room : (x : Item) → first_stop trail ≡ None → weight (trail ++ x ∷ []) ≤ limit → has_room limit trail x ≡ true
+  room x none fits = and_from _ _ (ap not (no_stop 0 trail none)) (le-leb (weight (trail ++ x ∷ [])) limit fits)
 
-  pub legal_took : (who t : ℕ) (m : Message) → greatest base trail ≤ t → first_stop trail ≡ None → next (after base (commits trail)) (out trail) t ≡ Some m
-      → is_legal_trail base no_limit (trail ++ item.Took who t m.id ∷ []) ≡ true
-  legal_took who t m late none due =
-      trail_on (item.Took who t m.id) (ap (is_legal base) (append-nil (commits trail)) ∙ parts.0) late
-      (and_from _ _ (room (item.Took who t m.id) none) (ap (λ (o : Option Message). option_map_or (λ k. same_id k.id m.id) o false) due ∙ same_id_self m.id))
+  pub legal_took : (who t : ℕ) (m : Message) → greatest base trail ≤ t → first_stop trail ≡ None → next (after base (commits trail)) (out trail) t ≡ Some m → weight (trail ++ item.Took who t m.id ∷ []) ≤ limit
+      → is_legal_trail base limit (trail ++ item.Took who t m.id ∷ []) ≡ true
+  legal_took who t m late none due fits =
+      trail_on (item.Took who t m.id) (ap (is_legal base) (append-nil (commits trail)) ∙ legal_parts.0) late
+      (and_from _ _ (room (item.Took who t m.id) none fits) (ap (λ (o : Option Message). option_map_or (λ k. same_id k.id m.id) o false) due ∙ same_id_self m.id))
 
   module _ (sound : IsSound base) (who t : ℕ) (a : Call) (free : is_legal_in (after base (commits trail)) (commit_of who t a) ≡ true) (late : greatest base trail ≤ t) where
     more : is_legal base (commits trail ++ commit_of who t a ∷ []) ≡ true
-    more = legal_more base (commits trail) (commit_of who t a) sound parts.0 free
+    more = legal_more base (commits trail) (commit_of who t a) sound legal_parts.0 free
 
     pub state_made : after base (commits (trail ++ item.Made (commit_of who t a) ∷ [])) ≡ after (after base (commits trail)) (commit_of who t a ∷ [])
-    state_made = ap (after base) (commits-push trail (item.Made (commit_of who t a))) ∙ after_more base (commits trail) (commit_of who t a) sound parts.0 free
+    state_made = ap (after base) (commits-push trail (item.Made (commit_of who t a))) ∙ after_more base (commits trail) (commit_of who t a) sound legal_parts.0 free
 
   pub legal_made : IsSound base → (who t : ℕ) (a : Call) → is_legal_in (after base (commits trail)) (commit_of who t a) ≡ true → greatest base trail ≤ t → first_stop trail ≡ None
-      → (core_out : List MsgId) → ((id : MsgId) → is_out id core_out ≡ is_out id (out trail)) → IsTrue (option_map_or (λ s. is_out s.id core_out) (settled_by a) true)
-      → is_legal_trail base no_limit (trail ++ item.Made (commit_of who t a) ∷ []) ≡ true
-  legal_made sound who t (call.Write w) free late none core_out leased held =
-      trail_on (item.Made (commit.Wrote who t w)) (more sound who t (call.Write w) free late) late (room (item.Made (commit.Wrote who t w)) none)
-  legal_made sound who t (call.Ack id) free late none core_out leased held =
+      → (core_out : List MsgId) → ((id : MsgId) → is_out id core_out ≡ is_out id (out trail)) → IsTrue (option_map_or (λ s. is_out s.id core_out) (settled_by a) true) → FitsIn limit trail (commit_of who t a)
+      → is_legal_trail base limit (trail ++ item.Made (commit_of who t a) ∷ []) ≡ true
+  legal_made sound who t (call.Write w) free late none core_out leased held fits =
+      trail_on (item.Made (commit.Wrote who t w)) (more sound who t (call.Write w) free late) late (room (item.Made (commit.Wrote who t w)) none fits)
+  legal_made sound who t (call.Ack id) free late none core_out leased held fits =
       trail_on (item.Made (commit.Acked who t id)) (more sound who t (call.Ack id) free late) late (sym (leased id) ∙ held)
-  legal_made sound who t (call.Fail id) free late none core_out leased held =
+  legal_made sound who t (call.Fail id) free late none core_out leased held fits =
       trail_on (item.Made (commit.Failed who t id)) (more sound who t (call.Fail id) free late) late (sym (leased id) ∙ held)
 
 pub unstopped_on : (trail : List Item) (x : Item) → is_stop x ≡ false → first_stop trail ≡ None → first_stop (trail ++ x ∷ []) ≡ None

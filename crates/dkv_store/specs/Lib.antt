@@ -5,3 +5,4 @@ pub mod Situations
 pub mod Terms
 pub mod Trails
 pub mod Opening
+pub mod Renewing

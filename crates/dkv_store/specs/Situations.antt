@@ -11,9 +11,8 @@ use Rattle.dkv_base.specs.declared.types.Call.{Call}
 use Rattle.dkv_base.specs.declared.types.Call.TheVariants as call
 use Rattle.dkv_base.specs.declared.types.MsgId.{MsgId}
 use Rattle.dkv_base.specs.Messages.{is_out}
-use Rattle.dkv_base.specs.Replies.{Reply, said, stopped, disk_fault}
+use Rattle.dkv_base.specs.Replies.{Reply, said, stopped, full, disk_fault}
 use Rattle.dkv_base.specs.Steps.{Situation, effective, step_at}
-use Rattle.dkv_core.specs.Runs.{no_limit}
 use Rattle.dkv_core.specs.declared.takes.Taken.{Taken}
 use Rattle.dkv_core.specs.declared.takes.Taken.TheVariants as taken
 use Rattle.dkv_store.specs.declared.answers.Done.{Done}
@@ -22,13 +21,13 @@ use Rattle.dkv_store.specs.declared.answers.Refusal.{Refusal}
 use Rattle.dkv_store.specs.declared.answers.Refusal.TheVariants as refusal
 use Rattle.dkv_store.specs.Stores.{Contents, IsRaised, effective_at}
 
--- the store's state and trail, the same messages out, its greatest moment, and no limit of weight yet
+-- the store's state and trail, the same messages out, its greatest moment and its limit
 pub record StandsFor {D : Type 0} (s : Situation) (c : Contents D) : Type 0 where
   pub state : s.state ≡ c.core.state
   pub out : (id : MsgId) → is_out id s.out ≡ is_out id c.core.out
   pub greatest : s.greatest ≡ c.core.greatest
   pub trail : s.trail ≡ c.trail
-  pub unlimited : s.limit ≡ no_limit
+  pub limited : s.limit ≡ c.limit
 
 -- In each situation of the old store the step of this caller has this reply, and leads to a situation of the new one. A mark makes a commit a fault of the disk.
 abbrev pub Answers : {D : Type 0} → Contents D → ℕ → ℕ → Ask → Bool → Reply → Contents D → Type 0
@@ -60,6 +59,7 @@ abbrev pub AnswersCall : {D : Type 0} → Contents D → ℕ → ℕ → Call �
 AnswersCall old who at a (Ok d) new = Answers old who at (ask_of a) false (said (answer_of a d)) new
 AnswersCall old who at a (Err refusal.DiskFault) new = Answers old who at (ask_of a) true disk_fault new
 AnswersCall old who at a (Err (refusal.Stopped place)) new = Answers old who at (ask_of a) false (stopped place) new
+AnswersCall old who at a (Err (refusal.Full bytes limit)) new = Answers old who at (ask_of a) false (full bytes limit) new
 AnswersCall old who at a (Err refusal.NoMemory) new = IsRaised (effective_at old at) old new
 
 -- the reply to a take
@@ -67,5 +67,6 @@ abbrev pub AnswersTake : {D : Type 0} → Contents D → ℕ → ℕ → Result 
 AnswersTake old who at (Ok (taken.Leased m)) new = Answers old who at ask.Take false (said (answer.Leased m)) new
 AnswersTake old who at (Ok (taken.Nothing next)) new = Answers old who at ask.Take false (said (answer.Nothing next)) new
 AnswersTake old who at (Err (refusal.Stopped place)) new = Answers old who at ask.Take false (stopped place) new
+AnswersTake old who at (Err (refusal.Full bytes limit)) new = Answers old who at ask.Take false (full bytes limit) new
 AnswersTake old who at (Err refusal.DiskFault) new = ⊥
 AnswersTake old who at (Err refusal.NoMemory) new = IsRaised (effective_at old at) old new

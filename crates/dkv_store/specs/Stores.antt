@@ -1,14 +1,18 @@
 -- What contracts see of a store, and what its type keeps.
---     Contents      the base and the items of the term, the core, the commit in doubt, the identity and the two disks, now and when the term began
+--     Contents      the base, the items and the limit of the term, the core, the commit in doubt, the identity, the bytes of the records, and the two
+--                   disks, now and when the term began
 --     Keeps ..      what every store keeps
 --     IsDone, IsRefused      the answers of a commit, and what they leave
-use Rattle.std.specs.Prelude.{ℕ, replicate, ◌≡◌, ◌≢◌, ◌⊎◌, ◌+◌, ◌-◌, ◌^◌, ◌<◌, ◌≤◌, Bool, true, false, IsTrue, List, [], ◌∷◌, ◌++◌, max, count_by, Option, Some, None, is_some, Ok, Err, ◌||◌}
+--     IsTake, IsNotTaken      the answers of a take, and what they leave
+use Rattle.std.specs.Prelude.{ℕ, replicate, ◌≡◌, ◌≢◌, ◌⊎◌, ◌+◌, ◌-◌, ◌^◌, ◌<◌, ◌≤◌, Bool, true, false, IsTrue, List, [], ◌∷◌, ◌++◌, max, min, count_by, Option, Some, None, is_some, Ok, Err, ◌||◌}
 use Rattle.dkv_base.specs.declared.types.AtomicWrite.{AtomicWrite}
 use Rattle.dkv_base.specs.declared.types.Call.{Call}
 use Rattle.dkv_base.specs.declared.types.Call.TheVariants as called
 use Rattle.dkv_base.specs.declared.types.Commit.{Commit}
+use Rattle.dkv_base.specs.declared.types.Commit.TheVariants as commit
 use Rattle.dkv_base.specs.declared.types.Item.{Item}
 use Rattle.dkv_base.specs.declared.types.Item.TheVariants as item
+use Rattle.dkv_base.specs.declared.types.Message.{Message}
 use Rattle.dkv_base.specs.declared.types.MsgId.{MsgId}
 use Rattle.dkv_base.specs.declared.types.Profile.TheVariants.{Narrow}
 use Rattle.dkv_base.specs.Profiles.{body_most}
@@ -18,23 +22,22 @@ use Rattle.dkv_base.specs.State.{State, seen, empty_state}
 use Rattle.dkv_base.specs.Moments.{capped_moment}
 use Rattle.dkv_base.specs.Sound.{IsSound}
 use Rattle.dkv_base.specs.After.{after, is_legal_in}
-use Rattle.dkv_base.specs.Trails.{commits, out, greatest, first_stop, is_legal_trail}
+use Rattle.dkv_base.specs.Trails.{commits, out, greatest, weight, first_stop, is_legal_trail}
 use Rattle.dkv_base.specs.Messages.{is_out}
 use Rattle.dkv_base.specs.Writes.{failing, mutated_all}
 use Rattle.dkv_core.specs.Cores.{Database}
 use Rattle.dkv_core.specs.Decisions.{commit_of, OfWrite}
-use Rattle.dkv_core.specs.Runs.{no_limit}
 use Rattle.dkv_core.specs.Settling.{without_id}
-use Rattle.dkv_store.specs.Trails.{message_of, spent, freed}
+use Rattle.dkv_store.specs.Trails.{message_of, spent, freed, FitsIn}
 use Rattle.dkv_journal.specs.declared.journal.Journal.{Journal}
-use Rattle.dkv_core.specs.Takes.{IsTaken}
+use Rattle.dkv_core.specs.Takes.{IsTaken, IsFirst}
 use Rattle.dkv_core.specs.declared.takes.Taken.{Taken}
 use Rattle.dkv_core.specs.declared.takes.Taken.TheVariants as taken
 use Rattle.dkv_io.specs.Disks.{Only}
 use Rattle.dkv_msgs.specs.Readings.{reads_atomic_write}
-use Rattle.dkv_files.specs.Files.{is_open}
+use Rattle.dkv_files.specs.Files.{first_gate}
 use Rattle.dkv_files.specs.Recovered as Recovered
-use Rattle.dkv_files.specs.Recovered.{Found, first_opening}
+use Rattle.dkv_files.specs.Recovered.{Found, first_opening, last_gate, used_file}
 use Rattle.dkv_store.specs.declared.answers.OpenRefusal.{OpenRefusal}
 use Rattle.dkv_store.specs.declared.answers.OpenRefusal.TheVariants as opening
 use Rattle.dkv_files.specs.Crashes.{Identity, identity, and_then}
@@ -52,6 +55,10 @@ pub record Contents (D : Type 0) : Type 0 where
   pub roomless : List MsgId
   pub doubt : Option Commit
   pub who : Identity
+  -- of the weight of the items
+  pub limit : ℕ
+  -- of the used file, behind its image
+  pub record_bytes : ℕ
   pub a : D
   pub b : D
   pub a_first : D
@@ -73,7 +80,7 @@ IsWithinRise n a_first a b_first b = a < 2 ^ 64 - 1 → b < 2 ^ 64 - 1 → n + a
 pub record Keeps {D : Type 0} (sees : D → Option (List ℕ)) (images : D → List ℕ → Type 0) (faults : D → ℕ) (journal : Journal) (s : Contents D) : Type 0 where
   pub sound : IsSound s.base
   pub state : s.core.state ≡ after s.base (commits s.trail)
-  pub legal : IsTrue (is_legal_trail s.base no_limit s.trail)
+  pub legal : IsTrue (is_legal_trail s.base s.limit s.trail)
   pub leased : (id : MsgId) → is_out id s.core.out ≡ is_out id (out s.trail)
   pub unstopped : first_stop s.trail ≡ None
   pub moments : greatest s.base s.trail ≤ s.core.greatest
@@ -85,7 +92,7 @@ pub record Keeps {D : Type 0} (sees : D → Option (List ℕ)) (images : D → L
 pub record Kept {D : Type 0} (faults : D → ℕ) (s : Contents D) : Type 0 where
   pub sound : IsSound s.base
   pub state : s.core.state ≡ after s.base (commits s.trail)
-  pub legal : IsTrue (is_legal_trail s.base no_limit s.trail)
+  pub legal : IsTrue (is_legal_trail s.base s.limit s.trail)
   pub leased : (id : MsgId) → is_out id s.core.out ≡ is_out id (out s.trail)
   pub unstopped : first_stop s.trail ≡ None
   pub moments : greatest s.base s.trail ≤ s.core.greatest
@@ -113,6 +120,8 @@ pub record IsRaisedTo {D : Type 0} (t : ℕ) (old new : Contents D) : Type 0 whe
   pub doubt : new.doubt ≡ old.doubt
   pub roomless : new.roomless ≡ old.roomless
   pub who : new.who ≡ old.who
+  pub limit : new.limit ≡ old.limit
+  pub record_bytes : new.record_bytes ≡ old.record_bytes
   pub a : new.a ≡ old.a
   pub b : new.b ≡ old.b
 
@@ -131,6 +140,9 @@ pub record IsMade {D : Type 0} (t : ℕ) (c : Commit) (n : ℕ) (old new : Conte
   pub roomless : new.roomless ≡ freed (message_of c) old.roomless
   pub sure : new.doubt ≡ None
   pub who : new.who ≡ old.who
+  pub limit : new.limit ≡ old.limit
+  pub record_bytes : new.record_bytes ≡ min (old.record_bytes + (5 + record_length c)) (2 ^ 64 - 1)
+  pub fits : FitsIn old.limit old.trail c
 
 -- the content stays, but for a doubt in the trail
 pub record IsDoubtful {D : Type 0} (who t : ℕ) (old new : Contents D) : Type 0 where
@@ -140,10 +152,16 @@ pub record IsDoubtful {D : Type 0} (who t : ℕ) (old new : Contents D) : Type 0
   pub greatest : new.core.greatest ≡ t
   pub trail : new.trail ≡ old.trail ++ item.Doubt who t ∷ []
   pub identity : new.who ≡ old.who
+  pub limit : new.limit ≡ old.limit
+  pub record_bytes : new.record_bytes ≡ old.record_bytes
 
 -- a write passes no limit and finds no stop
 abbrev pub IsFree : {D : Type 0} → Contents D → AtomicWrite → Type 0
 IsFree s w = (write_limit w ≡ None) × (first_stop s.trail ≡ None)
+
+-- a write that may be made, but for the weight of the items with its own
+abbrev pub IsFull : {D : Type 0} → Contents D → ℕ → ℕ → AtomicWrite → Type 0
+IsFull s who t w = IsTrue (is_legal_in s.core.state (commit.Wrote who t w)) × (s.limit < weight (s.trail ++ item.Made (commit.Wrote who t w) ∷ []))
 
 abbrev pub IsDone : {D : Type 0} → Contents D → ℕ → ℕ → Call → Done → Contents D → Type 0
 IsDone old who t call (done.Committed n) new = IsMade t (commit_of who t call) n old new
@@ -155,8 +173,9 @@ IsDone old who t call (done.Limit passed) new = OfWrite call (λ w. write_limit 
 
 abbrev pub IsRefused : {D : Type 0} → Contents D → ℕ → ℕ → Call → Refusal → Contents D → Type 0
 IsRefused old who t call refusal.DiskFault new =
-    IsTrue (is_legal_in old.core.state (commit_of who t call)) × IsDoubtful who t old new × (new.roomless ≡ spent (message_of (commit_of who t call)) old.roomless)
+    IsTrue (is_legal_in old.core.state (commit_of who t call)) × IsDoubtful who t old new × (new.roomless ≡ spent (message_of (commit_of who t call)) old.roomless) × FitsIn old.limit old.trail (commit_of who t call)
 IsRefused old who t call (refusal.Stopped place) new = OfWrite call (λ w. (write_limit w ≡ None) × (first_stop old.trail ≡ Some place)) × IsRaisedTo t old new
+IsRefused old who t call (refusal.Full bytes limit) new = OfWrite call (IsFull old who t) × (bytes ≡ weight old.trail) × (limit ≡ old.limit) × IsRaisedTo t old new
 IsRefused old who t call refusal.NoMemory new = IsRaised t old new
 
 -- a call that goes has a record that may be written
@@ -165,21 +184,23 @@ IsShort s who t call = IsTrue (is_legal_in s.core.state (commit_of who t call)) 
 
 -- ---- the other calls
 
--- a term begins on this core and these disks: there is no item, and nothing is in doubt
-pub record Begins {D : Type 0} (c : Database) (me : Identity) (x y : D) (s : Contents D) : Type 0 where
+-- a term under this limit begins on this core and these disks: there is no item, and this is in doubt
+pub record Begins {D : Type 0} (c : Database) (me : Identity) (limit_is bytes_is : ℕ) (doubt_is : Option Commit) (x y : D) (s : Contents D) : Type 0 where
   pub base : s.base ≡ c.state
   pub core : s.core ≡ c
   pub trail : s.trail ≡ []
   pub roomless : s.roomless ≡ []
-  pub doubt : s.doubt ≡ None
+  pub doubt : s.doubt ≡ doubt_is
+  pub record_bytes : s.record_bytes ≡ bytes_is
   pub who : s.who ≡ me
+  pub limit : s.limit ≡ limit_is
   pub a_is : s.a ≡ x
   pub b_is : s.b ≡ y
   pub a_first : s.a_first ≡ x
   pub b_first : s.b_first ≡ y
 
--- a store of the new database over these disks, with an identity of zeros
-pub record IsFresh {D : Type 0} (a b : D) (s : Contents D) : Type 0 where
+-- a store of the new database over these disks, with an identity of zeros and this limit
+pub record IsFresh {D : Type 0} (a b : D) (limit_is : ℕ) (s : Contents D) : Type 0 where
   pub base : s.base ≡ empty_state
   pub state : s.core.state ≡ empty_state
   pub out : s.core.out ≡ []
@@ -189,15 +210,25 @@ pub record IsFresh {D : Type 0} (a b : D) (s : Contents D) : Type 0 where
   pub doubt : s.doubt ≡ None
   pub id : s.who.id ≡ replicate 16 0
   pub secret : s.who.secret ≡ replicate 32 0
+  pub record_bytes : s.record_bytes ≡ 0
+  pub limit : s.limit ≡ limit_is
   pub a_is : s.a ≡ a
   pub b_is : s.b ≡ b
   pub a_first : s.a_first ≡ a
   pub b_first : s.b_first ≡ b
 
--- a message was taken, and its item joined the trail; or none is due
+-- a message was taken, and its item joined the trail, whose weight is within the limit; or none is due
 abbrev pub IsTake : {D : Type 0} → Contents D → ℕ → ℕ → Taken → Contents D → Type 0
-IsTake old who t (taken.Leased m) new = IsTaken old.core t (taken.Leased m) new.core × (new.trail ≡ old.trail ++ item.Took who t m.id ∷ []) × (new.roomless ≡ without_id m.id old.roomless)
+IsTake old who t (taken.Leased m) new = IsTaken old.core t (taken.Leased m) new.core × (new.trail ≡ old.trail ++ item.Took who t m.id ∷ []) × (new.roomless ≡ without_id m.id old.roomless) × (weight (old.trail ++ item.Took who t m.id ∷ []) ≤ old.limit)
 IsTake old who t (taken.Nothing moment) new = IsTaken old.core t (taken.Nothing moment) new.core × (new.trail ≡ old.trail) × (new.roomless ≡ old.roomless)
+
+-- why no message was taken, and what that leaves: it touches no disk
+abbrev pub IsNotTaken : {D : Type 0} → Contents D → ℕ → ℕ → Refusal → Contents D → Type 0
+IsNotTaken old who t refusal.DiskFault new = ⊥
+IsNotTaken old who t (refusal.Stopped place) new = (first_stop old.trail ≡ Some place) × IsRaisedTo t old new
+IsNotTaken old who t (refusal.Full bytes limit) new =
+    (m : Message) × IsFirst old.core t m × (old.limit < weight (old.trail ++ item.Took who t m.id ∷ [])) × (bytes ≡ weight old.trail) × (limit ≡ old.limit) × IsRaisedTo t old new
+IsNotTaken old who t refusal.NoMemory new = IsRaisedTo old.core.greatest old new
 
 -- both disks, and what they are of, stay
 pub record SameDisks {D : Type 0} (old new : Contents D) : Type 0 where
@@ -206,6 +237,8 @@ pub record SameDisks {D : Type 0} (old new : Contents D) : Type 0 where
   pub base : new.base ≡ old.base
   pub doubt : new.doubt ≡ old.doubt
   pub who : new.who ≡ old.who
+  pub limit : new.limit ≡ old.limit
+  pub record_bytes : new.record_bytes ≡ old.record_bytes
   pub a_first : new.a_first ≡ old.a_first
   pub b_first : new.b_first ≡ old.b_first
 
@@ -220,6 +253,7 @@ pub record IsOpened {D : Type 0} (images : D → List ℕ → Type 0) (fa fb : L
   pub who : s.who ≡ identity found
   pub trail : s.trail ≡ []
   pub out_none : s.core.out ≡ []
+  pub record_bytes : last_gate (used_file fa fb) ≡ first_gate (used_file fa fb) + s.record_bytes
   pub doubt : s.doubt ≡ None
   pub a_only : Only fa (images s.a)
   pub b_only : Only fb (images s.b)

@@ -25,6 +25,7 @@ pub record GoesOn {D : Type 0} (seen : D → Option (List ℕ)) (images : D → 
   pub trail : now.trail ≡ start.trail ++ items
   pub base : now.base ≡ start.base
   pub who : now.who ≡ start.who
+  pub limit : now.limit ≡ start.limit
   pub a_first : now.a_first ≡ start.a_first
   pub b_first : now.b_first ≡ start.b_first
   pub later : start.core.greatest ≤ now.core.greatest
@@ -57,4 +58,5 @@ abbrev pub left_in_doubt : Result Done Refusal → ℕ → Commit → List (ℕ 
 left_in_doubt (Ok d) k c = []
 left_in_doubt (Err refusal.DiskFault) k c = (k, c) ∷ []
 left_in_doubt (Err (refusal.Stopped place)) k c = []
+left_in_doubt (Err (refusal.Full bytes limit)) k c = []
 left_in_doubt (Err refusal.NoMemory) k c = []

@@ -2,13 +2,15 @@
 --     Items      the items, the room for more, the messages that lost their place, and the record for a settlement
 --     KeepsPlaces ..      each message that is out has a place for its settlement, or lost it
 --     spent, freed      the messages without a place once a settlement used its own, and once it was made
-use Rattle.std.specs.Prelude.{ℕ, ◌≡◌, ◌+◌, ◌≤◌, true, false, IsTrue, List, [], ◌∷◌, ◌++◌, Option, Some, None, is_some, if◌then◌else◌}
+--     FitsIn, IsTooHeavy      whether a write finds room for its item under the limit
+use Rattle.std.specs.Prelude.{ℕ, ◌≡◌, ◌+◌, ◌<◌, ◌≤◌, true, false, IsTrue, List, [], ◌∷◌, ◌++◌, Option, Some, None, is_some, if◌then◌else◌}
 use Rattle.dkv_base.specs.declared.types.Commit.{Commit}
 use Rattle.dkv_base.specs.declared.types.Commit.TheVariants as commit
 use Rattle.dkv_base.specs.declared.types.Item.{Item}
+use Rattle.dkv_base.specs.declared.types.Item.TheVariants as item
 use Rattle.dkv_base.specs.declared.types.MsgId.{MsgId}
 use Rattle.dkv_base.specs.Messages.{is_out}
-use Rattle.dkv_base.specs.Trails.{out}
+use Rattle.dkv_base.specs.Trails.{out, weight}
 use Rattle.dkv_core.specs.Settling.{without_id}
 use Rattle.dkv_journal.specs.Records.{IsLaid}
 
@@ -68,3 +70,15 @@ freed (Some id) lost = without_id id lost
 abbrev pub chosen : Option (List ℕ) → Option (List ℕ) → Option (List ℕ)
 chosen None kept = kept
 chosen (Some laid) kept = Some laid
+
+-- with a write's item the weight is within the limit; a settlement needs no room
+abbrev pub FitsIn : ℕ → List Item → Commit → Type 0
+FitsIn limit trail (commit.Wrote who at w) = weight (trail ++ item.Made (commit.Wrote who at w) ∷ []) ≤ limit
+FitsIn limit trail (commit.Acked who at id) = Unit {0}
+FitsIn limit trail (commit.Failed who at id) = Unit {0}
+
+-- with a write's item the weight passes the limit
+abbrev pub IsTooHeavy : ℕ → List Item → Commit → Type 0
+IsTooHeavy limit trail (commit.Wrote who at w) = limit < weight (trail ++ item.Made (commit.Wrote who at w) ∷ [])
+IsTooHeavy limit trail (commit.Acked who at id) = ⊥
+IsTooHeavy limit trail (commit.Failed who at id) = ⊥

@@ -1,5 +1,5 @@
 // The calls of a store as the one-thread database answers them.
-ghost use Rattle.std.specs.Prelude.{◌≡◌, ◌<◌, ◌≤◌, ◌-◌, ◌^◌, ℕ, [], length, false, IsTrue, IfOk, MatchResult, None, Some, Err};
+ghost use Rattle.std.specs.Prelude.{◌≡◌, ◌<◌, ◌≤◌, ◌-◌, ◌^◌, ℕ, [], length, false, IsTrue, IfErr, IfOk, MatchResult, None, Some, Err};
 ghost use Rattle.dkv_base.specs.declared.types.Ask.TheVariants.{Read};
 ghost use Rattle.dkv_base.specs.declared.types.Answer.TheVariants.{Entries};
 ghost use Rattle.dkv_base.specs.Limits.{read_limit};
@@ -11,7 +11,7 @@ ghost use Rattle.dkv_msgs.specs.Outputs.{read_output};
 ghost use Rattle.dkv_msgs.specs.Spellings.{spell_snapshot_read_output};
 ghost use Rattle.dkv_io.specs.Disks.{Told, AnyBytes};
 ghost use Rattle.dkv_store.specs.Situations.{Answers, AnswersCall, AnswersTake};
-ghost use Rattle.dkv_store.specs.Stores.{IsAckWithPlace, IsDone, IsRefused, IsRaisedTo, IsShort, IsOldOrNew, IsTake, Kept, SameDisks, effective_at};
+ghost use Rattle.dkv_store.specs.Stores.{IsAckWithPlace, IsDone, IsRefused, IsRaisedTo, IsShort, IsOldOrNew, IsNotTaken, IsTake, Kept, SameDisks, effective_at};
 ghost use Rattle.dkv_store.specs.Terms.{CommitLeaves, FilesStand, Leads, left_in_doubt};
 ghost use Rattle.dkv_store.specs.declared.answers.Refusal.TheVariants as refusal;
 
@@ -78,6 +78,8 @@ impl<D: Disk> Store<D> {
         ensures steps { AnswersTake self.old who at result self.new }
         ensures taken { IfOk result (λ taken.
             IsTake self.old who (effective_at self.old at) taken self.new) }
+        ensures refused { IfErr result
+            (λ r. IsNotTaken self.old who (effective_at self.old at) r self.new) }
         ensures goes { Leads D.seen D.may_leave D.moment D.left_since [] self.old self.new }
         ensures disks { SameDisks self.old self.new }
     {

@@ -17,7 +17,7 @@ ghost use Rattle.dkv_store.specs.declared.answers.Refusal.TheVariants as refusal
 
 use crate::answers::{Done, Refusal};
 use crate::keep::write;
-use crate::laid::chosen;
+use crate::laid::{chosen, record_size};
 use crate::store::Store;
 use crate::trail::ITEM_WEIGHT;
 use dkv_base::{Call, Commit, Item};
@@ -114,6 +114,14 @@ impl<D: Disk> Store<D> {
             self.core.drop_prepared(prepared);
             return Err(Refusal::NoMemory);
         };
+        if self.trail.is_too_heavy(&commit, weight, self.limit) {
+            self.core.drop_prepared(prepared);
+            self.core.raise(at);
+            return Err(Refusal::Full {
+                trail_bytes: self.trail.weight(),
+                limit: self.limit,
+            });
+        }
         let laid = chosen(&fresh, self.trail.settling());
         if write(&mut self.files, laid, &commit).is_err() {
             self.core.drop_prepared(prepared);
@@ -122,6 +130,9 @@ impl<D: Disk> Store<D> {
             return Err(Refusal::DiskFault);
         }
         let n = self.core.apply(prepared);
+        self.record_bytes = self
+            .record_bytes
+            .saturating_add(record_size(&commit, weight));
         self.trail.add_made(commit, weight);
         Ok(Done::Committed { n })
     }

@@ -1,5 +1,5 @@
 // The records of commits, laid out.
-ghost use Rattle.std.specs.Prelude.{◌≡◌, ◌≤◌, IsTrue, IfOk, OnOk, Some, is_some};
+ghost use Rattle.std.specs.Prelude.{◌≡◌, ◌+◌, ◌≤◌, IsTrue, IfOk, OnOk, Some, is_some};
 ghost use Rattle.dkv_base.specs.declared.types.Item.TheVariants.{Made};
 ghost use Rattle.dkv_base.specs.declared.types.Profile.TheVariants.{Narrow};
 ghost use Rattle.dkv_base.specs.Fits.{FitsCommit, FitsHead, FitsId};
@@ -39,6 +39,17 @@ fn weight_of(commit: &Commit, length: u64) -> u64
     match commit {
         Commit::Wrote { .. } => ITEM_WEIGHT + length,
         Commit::Acked { .. } | Commit::Failed { .. } => ITEM_WEIGHT,
+    }
+}
+
+/// How many bytes the record of a commit takes that weighs so much: its body, the length before it and the gate behind it.
+pub(crate) fn record_size(commit: &Commit, weight: u64) -> u64
+    requires weighed { weight ≡ item_weight (Made commit.now) }
+    ensures { result ≡ 5 + record_length commit.now }
+{
+    match commit {
+        Commit::Wrote { .. } => weight - (ITEM_WEIGHT - 5),
+        Commit::Acked { .. } | Commit::Failed { .. } => 30,
     }
 }
 

@@ -19,10 +19,12 @@ mod replay;
 mod store;
 mod takes;
 mod tells;
+mod terms;
 mod trail;
 
 pub use answers::{Done, OpenRefusal, Refusal};
 pub use opening::open_store;
 pub use store::Store;
 pub use tells::{Counts, Identity};
+pub use terms::{TermRefusal, WORN};
 pub use trail::MAX_TRAIL_BYTES;

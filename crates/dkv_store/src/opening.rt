@@ -1,11 +1,11 @@
 // Opening: what two files recover to becomes a store.
-ghost use Rattle.std.specs.Prelude.{◌≡◌, ◌⊎◌, ◌≤◌, OnOk, IfOk, IfErr, Ok, Err, false};
+ghost use Rattle.std.specs.Prelude.{◌≡◌, ◌-◌, ◌⊎◌, ◌≤◌, OnOk, IfOk, IfErr, Ok, Err, false};
 ghost use Rattle.dkv_io.specs.Causes.{Rose};
 ghost use Rattle.dkv_io.specs.Disks.{AtRest};
 ghost use Rattle.dkv_journal.specs.Crashes.{WhereTold};
 ghost use Rattle.dkv_files.specs.Crashes.{WhereBothTold, WritesNothing};
 ghost use Rattle.dkv_files.specs.Files.{is_open};
-ghost use Rattle.dkv_store.specs.Opening.{IsHeldIn, IsMadeOf, Tells};
+ghost use Rattle.dkv_store.specs.Opening.{IsHeldIn, IsMadeOf, Tells, first_place};
 ghost use Rattle.dkv_store.specs.Stores.{IsOpened, IsUnopened};
 ghost use Rattle.dkv_store.specs.declared.answers.OpenRefusal.TheVariants as opening;
 ghost use Rattle.dkv_store.specs.declared.trail.TheConstants.{MAX_TRAIL_BYTES};
@@ -13,7 +13,7 @@ ghost use Rattle.dkv_store.specs.declared.trail.TheConstants.{MAX_TRAIL_BYTES};
 use crate::answers::OpenRefusal;
 use crate::held::Files;
 use crate::looks::{judge, look_at};
-use crate::replay::{Unmade, read_records};
+use crate::replay::{FIRST_GATE, Unmade, read_records};
 use crate::store::Store;
 use dkv_core::Core;
 use dkv_files::{FileHead, Pair};
@@ -22,7 +22,7 @@ use dkv_journal::Journal;
 use std::alloc::Global;
 
 /// Opens what two files recover to, and begins a term on it. It syncs both first, and writes nothing. File a alone is read, with an
-/// empty image. `trail_limit` is in bytes, and bounds nothing yet. Takes memory for the records and as their commits did.
+/// empty image. `trail_limit` bounds the weight of the term's items, in bytes. Takes memory for the records and as their commits did.
 pub fn open_store<D: Disk>(
     alloc: Global,
     pair: Pair<D>,
@@ -35,6 +35,7 @@ pub fn open_store<D: Disk>(
         (λ e. IsUnopened fa fb e.0)) }
     ensures begins { IfOk result (λ s. (s.a_first ≡ s.a) × (s.b_first ≡ s.b)
         × (s.core.greatest ≡ s.base.moment)) }
+    ensures limited { IfOk result (λ s. s.limit ≡ trail_limit) }
     ensures told { IfOk result (λ s. (D.seen s.a ≡ D.seen pair.a)
         × (D.seen s.b ≡ D.seen pair.b)) }
     ensures later { IfOk result (λ s. (D.faults pair.a ≤ D.faults s.a)
@@ -46,19 +47,34 @@ pub fn open_store<D: Disk>(
     ensures cause { IfErr result (λ e. e.0 ≡ opening.DiskFault
         → Rose (D.faults pair.a) (D.faults e.1.a) ⊎ Rose (D.faults pair.b) (D.faults e.1.b)) }
 {
-    let _limit = trail_limit;
     let mut pair = pair;
     match recover(alloc, &mut pair) {
         Ok((head, core, journal)) => {
+            let record_bytes = bytes_before(&journal);
             let files = Files {
                 journal,
                 doubt: None,
                 pair,
             };
-            Ok(Store::begin(alloc, core, head.id, head.secret, files))
+            Ok(Store::begin(
+                alloc,
+                core,
+                head.id,
+                head.secret,
+                trail_limit,
+                record_bytes,
+                files,
+            ))
         }
         Err(refusal) => Err((refusal, pair)),
     }
+}
+
+// How many bytes the records take before the last gate.
+fn bytes_before(journal: &Journal) -> u64
+    ensures { result ≡ journal.now.place - first_place }
+{
+    journal.place.saturating_sub(FIRST_GATE)
 }
 
 // Brings two files to rest and reads what they hold: the header of file a, the core after its records, and their end.

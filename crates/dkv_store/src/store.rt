@@ -1,5 +1,5 @@
 // A store: what it is made of, how it begins, and what it hands back.
-ghost use Rattle.std.specs.Prelude.{◌≡◌, ◌≤◌, ℕ, List, [], IfOk, Some, None, false};
+ghost use Rattle.std.specs.Prelude.{◌≡◌, ◌≤◌, ℕ, List, [], IfOk, Some, None, is_some, option_map};
 ghost use Rattle.dkv_base.specs.Sound.{IsSound};
 ghost use Rattle.dkv_base.specs.declared.types.Profile.TheVariants.{Narrow};
 ghost use Rattle.dkv_files.specs.Crashes.{StandsOrDoubtful, read};
@@ -22,12 +22,16 @@ use std::marker::Model;
 #[derive(Drop)]
 pub struct Store<D: Disk> {
     pub(crate) core: Core,
-    base: Recall<Core>,
+    pub(crate) base: Recall<Core>,
     pub(crate) trail: Trail,
     pub(crate) id: [u8; 16],
     pub(crate) secret: [u8; 32],
+    // Of the weight of the term's items, in bytes.
+    pub(crate) limit: u64,
+    // Of the used file, behind its image.
+    pub(crate) record_bytes: u64,
     pub(crate) files: Files<D>,
-    first: Recall<Pair<D>>,
+    pub(crate) first: Recall<Pair<D>>,
 }
 
 impl<D: Disk> Model for Store<D> {
@@ -44,6 +48,8 @@ impl<D: Disk> Model for Store<D> {
       roomless = s.trail.roomless;
       doubt = option_map (λ d. d.value) s.files.doubt;
       who = record { id = s.id; secret = s.secret; profile = Narrow };
+      limit = s.limit;
+      record_bytes = s.record_bytes;
       a = s.files.pair.a;
       b = s.files.pair.b;
       a_first = s.first.value.a;
@@ -57,6 +63,8 @@ impl<D: Disk> Model for Store<D> {
       roomless = s.trail.roomless;
       doubt = option_map (λ d. d.value) s.files.doubt;
       who = record { id = s.id; secret = s.secret; profile = Narrow };
+      limit = s.limit;
+      record_bytes = s.record_bytes;
       a = s.files.pair.a;
       b = s.files.pair.b;
       a_first = s.first.value.a;
@@ -67,24 +75,26 @@ impl<D: Disk> Model for Store<D> {
 impl<D: Disk> Store<D> {
     ghost use Rattle.dkv_store.specs.Stores.{Begins, IsFresh};
 
-    // A term begins on a core in which no message is out, and on files that stand for its state. Takes no memory.
+    // A term under this limit begins on a core in which no message is out, and on files that stand for its state, or are in doubt
+    // by one commit. Takes no memory.
     pub(crate) fn begin(
         alloc: Global,
         core: Core,
         id: [u8; 16],
         secret: [u8; 32],
+        limit: u64,
+        record_bytes: u64,
         files: Files<D>,
     ) -> Store<D>
         requires sound { IsSound core.state }
         requires none { core.out ≡ [] }
         requires late { core.state.moment ≤ core.greatest }
-        requires sure { files.journal.in_doubt ≡ false }
-        requires undoubted { files.doubt ≡ None }
+        requires named { files.journal.in_doubt ≡ is_some files.doubt }
         requires stands { (fa : List ℕ) → D.seen files.pair.a ≡ Some fa
             → Hold (D.may_leave files.pair.a) (Guarded (D.seen files.pair.b) (D.may_leave files.pair.b))
-            files.journal None core.state (record { id = id; secret = secret; profile = Narrow }) }
+            files.journal (option_map (λ d. d.value) files.doubt) core.state (record { id = id; secret = secret; profile = Narrow }) }
         ensures { Begins core (record { id = id; secret = secret; profile = Narrow })
-            files.pair.a files.pair.b result }
+            limit record_bytes (option_map (λ d. d.value) files.doubt) files.pair.a files.pair.b result }
     {
         let base = Recall::of(&core);
         let first = Recall::of(&files.pair);
@@ -95,13 +105,15 @@ impl<D: Disk> Store<D> {
             trail,
             id,
             secret,
+            limit,
+            record_bytes,
             files,
             first,
         }
     }
 
     /// A store of the new database with an identity of zeros, over disks that tell nothing. It goes on behind the empty image of
-    /// file a, and makes no disk call. `trail_limit` is in bytes, and bounds nothing yet.
+    /// file a, and makes no disk call. `trail_limit` bounds the weight of the term's items, in bytes.
     pub fn fresh(
         alloc: Global,
         pair: Pair<D>,
@@ -110,9 +122,8 @@ impl<D: Disk> Store<D> {
         requires a_untold { D.seen pair.a ≡ None }
         requires b_untold { D.seen pair.b ≡ None }
         requires limit { trail_limit ≤ MAX_TRAIL_BYTES }
-        ensures { IfOk result (IsFresh pair.a pair.b) }
+        ensures { IfOk result (IsFresh pair.a pair.b trail_limit) }
     {
-        let _limit = trail_limit;
         match Core::empty(alloc) {
             Ok(core) => {
                 let files = Files {
@@ -120,7 +131,7 @@ impl<D: Disk> Store<D> {
                     doubt: None,
                     pair,
                 };
-                Ok(Store::begin(alloc, core, [0; 16], [0; 32], files))
+                Ok(Store::begin(alloc, core, [0; 16], [0; 32], trail_limit, 0, files))
             }
             Err(none) => Err((pair, none)),
         }
@@ -140,6 +151,8 @@ impl<D: Disk> Store<D> {
             trail: _,
             id: _,
             secret: _,
+            limit: _,
+            record_bytes: _,
             files,
             first: _,
         } = self;
@@ -161,6 +174,8 @@ impl<D: Disk> Store<D> {
             trail,
             id: _,
             secret: _,
+            limit: _,
+            record_bytes: _,
             files,
             first: _,
         } = self;

@@ -1,10 +1,10 @@
 // Messages, taken one after the other.
-ghost use Rattle.std.specs.Prelude.{◌≡◌, IfOk, MatchResult, ⊤};
-ghost use Rattle.dkv_store.specs.Stores.{IsTake, IsRaisedTo, SameDisks, effective_at};
-ghost use Rattle.dkv_store.specs.declared.answers.Refusal.TheVariants as refusal;
+ghost use Rattle.std.specs.Prelude.{IfOk, IfErr};
+ghost use Rattle.dkv_store.specs.Stores.{IsTake, IsNotTaken, SameDisks, effective_at};
 
 use crate::answers::Refusal;
 use crate::store::Store;
+use crate::trail::ITEM_WEIGHT;
 use dkv_base::TryCopy;
 use dkv_core::{NextDue, Taken};
 use dkv_io::Disk;
@@ -16,8 +16,8 @@ impl<D: Disk> Store<D> {
     pub(crate) fn take_kept(&mut self, alloc: Global, who: u32, at: u64) -> Result<Taken, Refusal>
         ensures taken { IfOk result
             (λ taken. IsTake self.old who (effective_at self.old at) taken self.new) }
-        ensures refused { MatchResult result (λ _. ⊤)
-            (λ r. (r ≡ refusal.NoMemory) × IsRaisedTo self.old.core.greatest self.old self.new) }
+        ensures refused { IfErr result
+            (λ r. IsNotTaken self.old who (effective_at self.old at) r self.new) }
         ensures disks { SameDisks self.old self.new }
     {
         let at = self.core.moment(at);
@@ -29,6 +29,13 @@ impl<D: Disk> Store<D> {
             }
         };
         let id = message.id;
+        if self.trail.passes(ITEM_WEIGHT, self.limit) {
+            self.core.raise(at);
+            return Err(Refusal::Full {
+                trail_bytes: self.trail.weight(),
+                limit: self.limit,
+            });
+        }
         self.trail.add_taken(alloc, who, at, id)?;
         self.core.lease(id);
         self.core.raise(at);

@@ -64,6 +64,20 @@ impl<D: Disk> Store<D> {
         self.trail.weight()
     }
 
+    /// The limit of the weight of the term's items, in bytes. Takes no memory.
+    pub fn limit(&self) -> u64
+        ensures { result ≡ self.now.limit }
+    {
+        self.limit
+    }
+
+    /// How many bytes the records of the used file take, behind its image. Takes no memory.
+    pub fn record_bytes(&self) -> u64
+        ensures { result ≡ self.now.record_bytes }
+    {
+        self.record_bytes
+    }
+
     /// The number of the last commit; 0 where there was none. Takes no memory.
     pub fn number(&self) -> u64
         ensures { result ≡ self.now.core.state.number }

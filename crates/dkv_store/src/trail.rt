@@ -1,5 +1,6 @@
 // The items of a term with their weight, and what the settlements of messages need that are out.
-ghost use Rattle.std.specs.Prelude.{◌≡◌, ◌+◌, ◌≤◌, List, [], ◌∷◌, ◌++◌, IsTrue, IsOk, IfOk, OnOk, OnErr, Some, true, false, is_some, vec_len, vec_capacity};
+ghost use Rattle.std.specs.Prelude.{◌≡◌, ◌+◌, ◌<◌, ◌≤◌, List, [], ◌∷◌, ◌++◌, IsTrue, IsOk, IfOk, OnOk, OnErr, Some, true, false, is_some, vec_len, vec_capacity};
+ghost use Rattle.dkv_base.specs.declared.types.Item.{Item};
 ghost use Rattle.dkv_base.specs.declared.types.Item.TheVariants.{Made, Took};
 ghost use Rattle.dkv_base.specs.declared.types.Profile.TheVariants.{Narrow};
 ghost use Rattle.dkv_base.specs.Messages.{is_out};
@@ -10,7 +11,7 @@ ghost use Rattle.dkv_core.specs.Settling.{without_id};
 ghost use Rattle.dkv_journal.specs.Records.{first_layout, laid as laid_of};
 ghost use Rattle.dkv_msgs.specs.Readings.{reads_atomic_write};
 ghost use Rattle.dkv_record.specs.Records.{commit_of as read_as, is_settlement};
-ghost use Rattle.dkv_store.specs.Trails.{message_of, IfOut, HasPlace, IsSettling, spent, freed, chosen};
+ghost use Rattle.dkv_store.specs.Trails.{message_of, FitsIn, IfOut, IsTooHeavy, HasPlace, IsSettling, spent, freed, chosen};
 
 use crate::laid::{lay, settlement};
 use dkv_base::{Commit, Item, MsgId, NoMemory, Run};
@@ -230,6 +231,28 @@ impl Trail {
         ensures { result ≡ weight_of self.now.items }
     {
         self.weight
+    }
+
+    /// Whether with an item that weighs so much the weight of the items passes this limit, in bytes. Takes no memory.
+    pub(crate) fn passes(&self, weight: u64, limit: u64) -> bool
+        ensures over { (x : Item) → item_weight x ≡ weight → result ≡ true
+            → limit < weight_of (self.now.items ++ x ∷ []) }
+        ensures within { (x : Item) → item_weight x ≡ weight → result ≡ false
+            → weight_of (self.now.items ++ x ∷ []) ≤ limit }
+    {
+        limit < self.weight.saturating_add(weight)
+    }
+
+    /// Whether a commit of this weight is a write that finds no room under this limit, in bytes. Takes no memory.
+    pub(crate) fn is_too_heavy(&self, commit: &Commit, weight: u64, limit: u64) -> bool
+        requires weighed { weight ≡ item_weight (Made commit.now) }
+        ensures over { result ≡ true → IsTooHeavy limit self.now.items commit.now }
+        ensures within { result ≡ false → FitsIn limit self.now.items commit.now }
+    {
+        match commit {
+            Commit::Wrote { .. } => self.passes(weight, limit),
+            Commit::Acked { .. } | Commit::Failed { .. } => false,
+        }
     }
 
     /// The items. Takes no memory.

@@ -1,3 +1,4 @@
 //! The tests.
 mod calls;
 mod opening;
+mod terms;

@@ -21,7 +21,7 @@ use std::test::Fail;
 // ---- a disk in memory that tells nothing, so that a store may begin on it
 
 #[derive(Drop)]
-struct Quiet {
+pub(crate) struct Quiet {
     disk: MemoryDisk,
 }
 
@@ -69,7 +69,7 @@ impl Disk for Quiet {
 }
 
 // A file of 113 zeros that fails at these calls.
-fn file(alloc: Global, fails: &[u64]) -> Result<Quiet, NoMemory> {
+pub(crate) fn file(alloc: Global, fails: &[u64]) -> Result<Quiet, NoMemory> {
     let mut bytes = Vec::new(alloc);
     bytes.resize(113, 0)?;
     let disk = MemoryDisk::new(alloc, bytes, fails.to_vec(alloc)?);
@@ -124,7 +124,12 @@ fn copy_of(alloc: Global, call: &Call) -> Result<Call, NoMemory>
 }
 
 // What a commit came to: its number, or 0 for another answer; and a disk's fault, or want of memory.
-fn commit(store: &mut Store<Quiet>, alloc: Global, at: u64, call: Call) -> Result<u64, Refusal> {
+pub(crate) fn commit(
+    store: &mut Store<Quiet>,
+    alloc: Global,
+    at: u64,
+    call: Call,
+) -> Result<u64, Refusal> {
     let may = store.may_ask(&call) && store.number() < 1_000;
     if !may || !is_short(alloc, 1, store.moment(at), &call) {
         return Ok(0);
@@ -139,7 +144,7 @@ fn commit(store: &mut Store<Quiet>, alloc: Global, at: u64, call: Call) -> Resul
 const WRITE: &[u8] = b"\x12\x0e\x0a\x03\x02a\x00\x12\x05\x0a\x01x\x10\x03\x18\x01\
     \x1a\x08\x0a\x01m\x10\x05\x22\x01\x01";
 
-fn write(alloc: Global) -> Result<Call, NoMemory> {
+pub(crate) fn write(alloc: Global) -> Result<Call, NoMemory> {
     match read_atomic_write(alloc, WRITE) {
         Ok(write) => Ok(Call::Write(write)),
         Err(_) => Err(NoMemory),
@@ -198,13 +203,13 @@ fn after_a_fault_the_next_write_is_the_third(rt: HostRuntime) -> Result<(), Fail
 
 // ---- messages
 
-const FIRST: MsgId = MsgId {
+pub(crate) const FIRST: MsgId = MsgId {
     commit: 1,
     index: 0,
 };
 
 // Whether the first message is given at the moment.
-fn takes(store: &mut Store<Quiet>, alloc: Global, at: u64) -> Result<bool, Refusal> {
+pub(crate) fn takes(store: &mut Store<Quiet>, alloc: Global, at: u64) -> Result<bool, Refusal> {
     match store.take(alloc, 1, at)? {
         Taken::Leased(message) => Ok(message.id == FIRST),
         Taken::Nothing { next: _ } => Ok(false),

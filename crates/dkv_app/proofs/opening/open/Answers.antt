@@ -10,6 +10,9 @@ returns-then-n-lt-WORN-clause-told g c = c.in-Ok.ensures.told
 pub returns-then-n-lt-WORN-clause-later : goal.returns-then-n-lt-WORN-clause-later
 returns-then-n-lt-WORN-clause-later g c = c.in-Ok.ensures.later
 
+pub returns-then-n-lt-WORN-clause-limited : goal.returns-then-n-lt-WORN-clause-limited
+returns-then-n-lt-WORN-clause-limited g c = c.in-Ok.ensures.limited
+
 pub returns-else-n-lt-WORN-clause-refused : goal.returns-else-n-lt-WORN-clause-refused
 returns-else-n-lt-WORN-clause-refused g c = λ fa fb told_a told_b.
     let opened = c.in-Ok.ensures.opened fa fb told_a told_b in

@@ -1,7 +1,7 @@
 use Rattle.std.proofs.Common.{◌≡◌, sym, ◌∙◌, ap, subst, List, ℕ}
 use Rattle.dkv_store.specs.Held.{Guarded}
 use Rattle.dkv_files.specs.Files.{is_open}
-use Rattle.dkv_store.proofs.Opened.{f, made_is_sound, holds, both_read, same_identity, told_file}
+use Rattle.dkv_store.proofs.Opened.{f, made_is_sound, holds, both_read, bytes_read, same_identity, told_file}
 use Rattle.dkv_store.proofs.opening.open_store.Goals as goal
 
 pub begin-requires-clause-sound : goal.begin-requires-clause-sound
@@ -36,6 +36,7 @@ returns-in-Ok-clause-opened g c fa fb told_a told_b =
       who = begins.who ∙ sym (same_identity fa c.in-Ok.head c.in-Ok.core c.in-Ok.journal held);
       trail = begins.trail;
       out_none = ap (λ d. d.out) begins.core ∙ held.made.between.out;
+      record_bytes = bytes_read fa c.in-Ok.head c.in-Ok.core c.in-Ok.journal held fb _ (c.in-Ok.ensures.shut fb told_b) (begins.record_bytes ∙ c.bytes_before-record_bytes.ensures);
       doubt = begins.doubt;
       a_only = λ x now. rest_a.only x (subst (λ d. g.D.Disk.may_leave d x) begins.a_is now);
       b_only = λ x now. rest_b.only x (subst (λ d. g.D.Disk.may_leave d x) begins.b_is now);

@@ -1,5 +1,10 @@
-use Rattle.std.proofs.Common.{◌≡◌, ◌∙◌, sym, ap, subst, List, [], ◌∷◌, ◌++◌, ℕ, ◌≤◌, Bool, false, Option, Some, None, Result, Ok, Err, OnOk, refl}
+use Rattle.std.proofs.Common.{◌≡◌, ◌∙◌, sym, ap, subst, List, [], ◌∷◌, ◌++◌, ℕ, ◌+◌, ◌-◌, ◌^◌, ◌≤◌, min, Bool, false, Option, Some, None, Result, Ok, Err, OnOk, refl}
+use Rattle.dkv_base.specs.declared.types.Call.{Call}
+use Rattle.dkv_base.specs.declared.types.Call.TheVariants as call
 use Rattle.dkv_base.specs.declared.types.Commit.{Commit}
+use Rattle.dkv_base.specs.declared.types.Commit.TheVariants as commit
+use Rattle.dkv_base.specs.declared.types.MsgId.{MsgId}
+use Rattle.dkv_base.specs.Trails.{weight}
 use Rattle.dkv_base.specs.declared.types.Profile.TheVariants.{Narrow}
 use Rattle.dkv_base.specs.Profiles.{body_most}
 use Rattle.dkv_base.specs.Spelling.{record_length}
@@ -7,18 +12,18 @@ use Rattle.dkv_base.specs.State.{State}
 use Rattle.dkv_base.specs.After.{is_legal_in}
 use Rattle.std.specs.Prelude.{IsTrue, option_map, is_some, is_err}
 use Rattle.dkv_core.specs.Cores.{applied}
-use Rattle.dkv_core.specs.Decisions.{commit_of, Goes}
+use Rattle.dkv_core.specs.Decisions.{commit_of, Goes, OfWrite}
 use Rattle.dkv_files.specs.Crashes.{Identity, and_then}
 use Rattle.dkv_store.specs.Held.{CommitMoves, MayAdd, Hold, Guarded}
-use Rattle.dkv_store.specs.Stores.{Contents, Keeps, IsOldOrNew}
+use Rattle.dkv_store.specs.Stores.{Contents, Keeps, IsFull, IsOldOrNew}
 use Rattle.dkv_store.specs.declared.recall.Recall.{Recall}
 use Rattle.dkv_base.specs.declared.types.Item.{Item}
 use Rattle.dkv_base.specs.declared.types.Item.TheVariants as item
 use Rattle.dkv_io.proofs.Seen.{was_told}
-use Rattle.dkv_store.specs.Trails.{message_of, freed}
+use Rattle.dkv_store.specs.Trails.{message_of, spent, freed, FitsIn, IsTooHeavy}
 use Rattle.dkv_store.proofs.Keeping.{kept_doubt, kept_made}
 use Rattle.dkv_store.proofs.Placing.{freed_spent}
-use Rattle.dkv_store.proofs.Results.{err_of, ok_of, failed_of}
+use Rattle.dkv_store.proofs.Results.{err_of, ok_of, failed_of, named_on}
 use Rattle.dkv_store.proofs.Standing.{keeps_still}
 use Rattle.dkv_store.proofs.store.Store.make.Goals as goal
 
@@ -67,9 +72,13 @@ returns-clause-moves g c =
     subst (λ (m : Commit). CommitMoves g.D.Disk.may_leave g.D.Disk.moment g.D.Disk.left_since who i.core.state (option_map (λ d. d.value) i.files.doubt) m i.files.pair.a i.files.pair.b n.a n.b) is
     (c.write.ensures.moves i.core.state who fa fb told_a told_b (c.self.invariant.stands fa told_a) may))
 
-named_on : (v : Bool) (o : Option (Recall Commit)) → v ≡ is_some o → v ≡ is_some (option_map (λ d. d.value) o)
-named_on v None is = is
-named_on v (Some d) is = is
+-- with a record more
+more_bytes : (was old size now : ℕ) (c d : Commit) → was ≡ old → c ≡ d → size ≡ 5 + record_length c → now ≡ min (was + size) (2 ^ 64 - 1) → now ≡ min (old + (5 + record_length d)) (2 ^ 64 - 1)
+more_bytes was old size now c d same is long sum = sum ∙ (λ i. min (same i + (long ∙ ap (λ (m : Commit). 5 + record_length m) is) i) (2 ^ 64 - 1))
+
+-- a commit fits behind items that are the same
+fits_in : (limit : ℕ) (old new : List Item) (c d : Commit) → new ≡ old → c ≡ d → FitsIn limit new c → FitsIn limit old d
+fits_in limit old new c d items is fits = subst (λ (xs : List Item). FitsIn limit xs d) items (subst (λ (m : Commit). FitsIn limit new m) is fits)
 
 pub invariant_of-self-then-is_err : goal.invariant_of-self-then-is_err
 invariant_of-self-then-is_err g c =
@@ -85,12 +94,12 @@ invariant_of-self-then-is_err g c =
       legal = subst (λ (m : Commit). IsTrue (is_legal_in i.core.state m)) (sym is) goes.legal;
     } in
     let failed = sym c.is_err.ensures.value ∙ c.if-is_err.true in
-    kept_doubt g.D.Disk.seen g.D.Disk.may_leave g.D.Disk.faults i.files.journal n.journal i.base.value.state i.core c.raise.new.self i.trail.items c.add.new.self.items i.trail.roomless c.add.new.self.roomless
-    (option_map (λ d. d.value) i.files.doubt) (option_map (λ d. d.value) n.doubt) me i.files.pair.a n.pair.a i.files.pair.b n.pair.b i.first.value.a i.first.value.b c.self.invariant
-    c.args.who c.args.at c.args.call c.args.prepared goes (named_on _ n.doubt c.write.ensures.named) c.write.ensures.other
-    (ap (λ w. w.state) c.raise.ensures ∙ ap (λ w. w.state) c.drop_prepared-then-is_err.ensures)
-    (ap (λ w. w.out) c.raise.ensures ∙ ap (λ w. w.out) c.drop_prepared-then-is_err.ensures)
-    (ap (λ w. w.greatest) c.raise.ensures)
+    kept_doubt g.D.Disk.seen g.D.Disk.may_leave g.D.Disk.faults i.files.journal n.journal i.base.value.state i.core c.raise-then-is_err.new.self i.trail.items c.add.new.self.items i.trail.roomless c.add.new.self.roomless
+    (option_map (λ d. d.value) i.files.doubt) (option_map (λ d. d.value) n.doubt) me i.limit i.record_bytes i.record_bytes i.files.pair.a n.pair.a i.files.pair.b n.pair.b i.first.value.a i.first.value.b c.self.invariant
+    c.args.who c.args.at c.args.call c.args.prepared goes (named_on (λ (d : Recall Commit). d.value) _ n.doubt c.write.ensures.named) c.write.ensures.other
+    (ap (λ w. w.state) c.raise-then-is_err.ensures ∙ ap (λ w. w.state) c.drop_prepared-then-is_err.ensures)
+    (ap (λ w. w.out) c.raise-then-is_err.ensures ∙ ap (λ w. w.out) c.drop_prepared-then-is_err.ensures)
+    (ap (λ w. w.greatest) c.raise-then-is_err.ensures)
     (c.add.ensures.items ∙ ap (λ (l : List Item). l ++ item.Doubt c.args.who c.args.at ∷ []) c.ready.ensures.items)
     (failed_of c.write.result _ c.write.ensures.cause.failed failed)
     (λ fa told.
@@ -111,12 +120,13 @@ invariant_of-self-2 g c =
       legal = subst (λ (m : Commit). IsTrue (is_legal_in i.core.state m)) (sym is) goes.legal;
     } in
     let went = sym c.is_err.ensures.value ∙ c.if-is_err.false in
+    let fits = fits_in i.limit i.trail.items c.ready.new.self.items k (commit_of c.args.who c.args.at c.args.call) c.ready.ensures.items is (c.is_too_heavy.ensures.within c.if-is_too_heavy.false) in
     kept_made g.D.Disk.seen g.D.Disk.may_leave g.D.Disk.faults i.files.journal n.journal i.base.value.state i.core c.apply-n.new.self i.trail.items c.add_made.new.self.items i.trail.roomless c.add_made.new.self.roomless
-    (option_map (λ d. d.value) i.files.doubt) (option_map (λ d. d.value) n.doubt) me i.files.pair.a n.pair.a i.files.pair.b n.pair.b i.first.value.a i.first.value.b c.self.invariant
-    c.args.who c.args.at c.args.call c.args.prepared goes (named_on _ n.doubt c.write.ensures.named) c.write.ensures.other
+    (option_map (λ d. d.value) i.files.doubt) (option_map (λ d. d.value) n.doubt) me i.limit i.record_bytes c.saturating_add-self-inside.result i.files.pair.a n.pair.a i.files.pair.b n.pair.b i.first.value.a i.first.value.b c.self.invariant
+    c.args.who c.args.at c.args.call c.args.prepared goes (named_on (λ (d : Recall Commit). d.value) _ n.doubt c.write.ensures.named) c.write.ensures.other
     c.apply-n.ensures.state c.apply-n.ensures.out c.apply-n.ensures.moment
     (c.add_made.ensures.items ∙ (λ z. c.ready.ensures.items z ++ item.Made (is z) ∷ []))
-    c.write.ensures.cause.later
+    c.write.ensures.cause.later fits
     (λ fa told.
     let was = was_told _ _ _ fa told c.write.ensures.told in
     subst (λ (m : Commit). Hold (g.D.Disk.may_leave n.pair.a) (Guarded (g.D.Disk.seen n.pair.b) (g.D.Disk.may_leave n.pair.b)) n.journal (option_map (λ d. d.value) n.doubt) (and_then i.core.state m) me) is
@@ -157,4 +167,57 @@ returns-clause-answer g c =
           ∙ (λ z. freed (message_of (is z)) (c.self.view_is z).roomless);
       sure = none_of c.write.new.files.doubt (sym c.write.ensures.named ∙ ok_gives c.write.result c.write.ensures.sure went);
       who = ap (λ s. s.who) c.self.view_is;
+      limit = ap (λ s. s.limit) c.self.view_is;
+      record_bytes = more_bytes i.record_bytes c.args.self.now.record_bytes c.record_size.result c.saturating_add-self-inside.result k (commit_of c.args.who c.args.at c.args.call) (ap (λ s. s.record_bytes) c.self.view_is) is c.record_size.ensures c.saturating_add-self-inside.ensures;
+      fits = subst (λ (s : Contents g.row.D.Denot). FitsIn s.limit s.trail (commit_of c.args.who c.args.at c.args.call)) c.self.view_is
+          (fits_in i.limit i.trail.items c.ready.new.self.items k (commit_of c.args.who c.args.at c.args.call) c.ready.ensures.items is (c.is_too_heavy.ensures.within c.if-is_too_heavy.false));
     }
+
+-- ---- a trail that is full
+
+heavy_in : (limit : ℕ) (old new : List Item) (c d : Commit) → new ≡ old → c ≡ d → IsTooHeavy limit new c → IsTooHeavy limit old d
+heavy_in limit old new c d items is heavy = subst (λ (xs : List Item). IsTooHeavy limit xs d) items (subst (λ (m : Commit). IsTooHeavy limit new m) is heavy)
+
+-- what weighs too much is a write
+full_write : {D : Type 0} (s : Contents D) (who t : ℕ) (a : Call) → IsTrue (is_legal_in s.core.state (commit_of who t a)) → IsTooHeavy s.limit s.trail (commit_of who t a) → OfWrite a (IsFull s who t)
+full_write s who t (call.Write w) legal heavy = (legal, heavy)
+full_write s who t (call.Ack id) legal heavy = absurd heavy
+full_write s who t (call.Fail id) legal heavy = absurd heavy
+
+heavy_spends : (limit : ℕ) (items : List Item) (c : Commit) (lost : List MsgId) → IsTooHeavy limit items c → spent (message_of c) lost ≡ lost
+heavy_spends limit items (commit.Wrote who at w) lost heavy = refl
+heavy_spends limit items (commit.Acked who at id) lost heavy = absurd heavy
+heavy_spends limit items (commit.Failed who at id) lost heavy = absurd heavy
+
+pub returns-then-is_too_heavy-clause-moves : goal.returns-then-is_too_heavy-clause-moves
+returns-then-is_too_heavy-clause-moves g c fa fb told_a told_b =
+    let i = c.self.inside in
+    let kept = subst (λ (s : Contents g.row.D.Denot). Keeps g.D.Disk.seen g.D.Disk.may_leave g.D.Disk.faults i.files.journal s) c.self.view_is c.self.invariant in
+    keeps_still g.D.Disk.seen g.D.Disk.may_leave g.D.Disk.moment g.D.Disk.left_since g.D.Disk.faults i.files.journal c.args.self.now kept (commit_of c.args.who c.args.at c.args.call)
+    i.files.pair.a i.files.pair.b (ap (λ s. s.a) c.self.view_is) (ap (λ s. s.b) c.self.view_is) fa fb told_a told_b
+
+pub returns-then-is_too_heavy-clause-answer : goal.returns-then-is_too_heavy-clause-answer
+returns-then-is_too_heavy-clause-answer g c =
+    let i = c.self.inside in
+    let k = c.commit_for-commit.result in
+    let over = c.is_too_heavy.ensures.over c.if-is_too_heavy.true in
+    let heavy = subst (λ (s : Contents g.row.D.Denot). IsTooHeavy s.limit s.trail (commit_of c.args.who c.args.at c.args.call)) c.self.view_is
+    (heavy_in i.limit i.trail.items c.ready.new.self.items k (commit_of c.args.who c.args.at c.args.call) c.ready.ensures.items c.commit_for-commit.ensures over) in (
+      full_write c.args.self.now c.args.who c.args.at c.args.call c.requires.goes.legal heavy,
+      c.weight.ensures ∙ ap weight c.ready.ensures.items ∙ ap (λ s. weight s.trail) c.self.view_is,
+      ap (λ s. s.limit) c.self.view_is,
+      record {
+        base = ap (λ s. s.base) c.self.view_is;
+        state = ap (λ w. w.state) c.raise.ensures ∙ ap (λ w. w.state) c.drop_prepared-then-is_too_heavy.ensures ∙ ap (λ s. s.core.state) c.self.view_is;
+        out = ap (λ w. w.out) c.raise.ensures ∙ ap (λ w. w.out) c.drop_prepared-then-is_too_heavy.ensures ∙ ap (λ s. s.core.out) c.self.view_is;
+        greatest = ap (λ w. w.greatest) c.raise.ensures;
+        trail = c.ready.ensures.items ∙ ap (λ s. s.trail) c.self.view_is;
+        doubt = ap (λ s. s.doubt) c.self.view_is;
+        roomless = c.in-Ok.ensures.spent ∙ heavy_spends i.limit c.ready.new.self.items k i.trail.roomless over ∙ ap (λ s. s.roomless) c.self.view_is;
+        who = ap (λ s. s.who) c.self.view_is;
+        limit = ap (λ s. s.limit) c.self.view_is;
+        record_bytes = ap (λ s. s.record_bytes) c.self.view_is;
+        a = ap (λ s. s.a) c.self.view_is;
+        b = ap (λ s. s.b) c.self.view_is;
+      },
+    )

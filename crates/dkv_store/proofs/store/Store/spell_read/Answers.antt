@@ -1,6 +1,6 @@
 use Rattle.std.proofs.Common.{arith}
 use Rattle.dkv_store.specs.Stores.{effective_at}
-use Rattle.dkv_store.proofs.Answering.{read_answers}
+use Rattle.dkv_store.proofs.Taking.{read_answers}
 use Rattle.dkv_store.proofs.Leading.{read_leads}
 use Rattle.dkv_store.proofs.store.Store.spell_read.Goals as goal
 
