@@ -2,6 +2,7 @@
 mod ends;
 mod expiry;
 mod files;
+mod generating;
 mod limits;
 mod queue;
 mod reads;
