@@ -1,9 +1,9 @@
 #!/bin/sh
 # How fast `denokv pipe` answers frames: megabytes a second for writes of small and of large values, how the time grows with
 # the number of frames, frames a second for reads and writes over 1,000 and over 100,000 keys, also where a tenth of the keys
-# ends at each step, a million SETs in three orders with the memory that they take, the moment at which 100,000 keys end, and
-# rounds a second of an enqueue, a take and an acknowledgement while 10 and while 100,000 messages wait. Skipped where python3
-# is missing.
+# ends at each step, a million SETs in three orders with the memory that they take, the moment at which 100,000 keys end,
+# rounds a second of an enqueue, a take and an acknowledgement while 10 and while 100,000 messages wait, and frames a second of the
+# workload that `generate` writes. Skipped where python3 is missing.
 set -u
 cd "$(dirname "$0")/.." || exit 2
 if ! command -v python3 >/dev/null 2>&1; then
@@ -70,6 +70,13 @@ dying() {
         'BEGIN { printf "%d keys that end at one moment: %.3f s, %.0f bytes an entry before\n", keys, all - load, (most - none) / keys - 17 }'
 }
 
+# workload NUMBER: the frames that `generate` makes of the number
+workload() {
+    crates/denokv/out/denokv generate "$1" >"$folder/frames" || exit 1
+    awk -v number="$1" -v s="$(seconds "$folder/frames")" \
+        'BEGIN { printf "the workload of %d: %.3f s, %.0f frames/s\n", number, s, 24000 / s }'
+}
+
 for frames in 1000 10000 100000; do
     writes 10 8 "$frames"
 done
@@ -90,3 +97,4 @@ dying 100000
 for waiting in 10 100000; do
     over waiting round "$waiting" 200000
 done
+workload 7

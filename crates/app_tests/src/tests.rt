@@ -3,6 +3,7 @@ mod ample;
 mod ends;
 mod expiry;
 mod files;
+mod generating;
 mod limits;
 mod queue;
 mod reads;

@@ -10,7 +10,7 @@ use Rattle.dkv_app.specs.declared.command.CommandError.TheVariants.{BadWords, No
 use Rattle.dkv_app.specs.declared.options.Options.{Options}
 use Rattle.dkv_app.specs.declared.options.TheConstants.{MAX_TRAIL}
 use Rattle.dkv_app.specs.Commands.{ReadsAs, IsCommand, IsPipeOf, HasFolder, HasTrail, InNoForm, NamesFolder}
-use Rattle.dkv_app.specs.Options.{AddsOption, AreOptions}
+use Rattle.dkv_app.specs.Options.{AddsOption, AreOptions, IsNumber}
 use Rattle.dkv_app.proofs.OptionWords.{are_one}
 
 -- words that are no options name no command behind `pipe`
@@ -21,22 +21,49 @@ no_pipe options none (command.Check folder) is =
     let other = ap (λ (l : List (List ℕ)). get_or (get_or l 0 []) 0 0) is in absurd (omega (arith, other))
 no_pipe options none (command.Pipe folder trail) is =
     none is.2.0 (subst (λ (l : List (List ℕ)). AreOptions l is.2.0) (sym (ap (λ (l : List (List ℕ)). drop 1 l) is.1)) is.2.1)
+no_pipe options none (command.Generate number) is =
+    let other = ap (λ (l : List (List ℕ)). get_or (get_or l 0 []) 0 0) is.1 in absurd (omega (arith, other))
+
+-- a word that is no number names no command behind `generate`
+no_generate : (texts : List (List ℕ)) → ((text : List ℕ) (n : ℕ) → texts ≡ text ∷ [] → IsNumber text n → ⊥) → (c : Command) → IsCommand c (codes "generate" ∷ texts) → ⊥
+no_generate texts none (command.Create folder) is =
+    let other = ap (λ (l : List (List ℕ)). get_or (get_or l 0 []) 0 0) is in absurd (omega (arith, other))
+no_generate texts none (command.Check folder) is =
+    let other = ap (λ (l : List (List ℕ)). get_or (get_or l 0 []) 0 0) is in absurd (omega (arith, other))
+no_generate texts none (command.Pipe folder trail) is =
+    let other = ap (λ (l : List (List ℕ)). get_or (get_or l 0 []) 0 0) is.1 in absurd (omega (arith, other))
+no_generate texts none (command.Generate number) is = none is.0 number (ap (λ (l : List (List ℕ)). drop 1 l) is.1) is.2
+
+-- a word that is a number does
+pub number_command : (texts : List (List ℕ)) (text : List ℕ) (n : ℕ) → texts ≡ text ∷ [] → IsNumber text n → IsCommand (command.Generate n) (codes "generate" ∷ texts)
+number_command texts text n is number = (text, ap (λ (l : List (List ℕ)). codes "generate" ∷ l) is, number)
+
+-- one that is none doesn't
+pub no_number_command : (texts : List (List ℕ)) (text : List ℕ) → texts ≡ text ∷ [] → ((n : ℕ) → IsNumber text n → ⊥) → (c : Command) → IsCommand c (codes "generate" ∷ texts) → ⊥
+no_number_command texts text is none = no_generate texts (λ other n same number. none n (subst (λ (l : List ℕ). IsNumber l n) (ap (λ (l : List (List ℕ)). get_or l 0 []) (sym same ∙ is)) number))
+
+-- nor do no words, or several
+pub no_text_command : (texts : List (List ℕ)) → ((text : List ℕ) → texts ≡ text ∷ [] → ⊥) → (c : Command) → IsCommand c (codes "generate" ∷ texts) → ⊥
+no_text_command texts none = no_generate texts (λ text n same number. none text same)
 
 pub pipe_refused : (options : List (List ℕ)) (why : CommandError) → ReadsAs {T = Options} (Err why) (AreOptions options) → ReadsAs {T = Command} (Err why) (λ c. IsCommand c (codes "pipe" ∷ options))
 pipe_refused options BadWords none = λ c is. no_pipe options none c is
 pipe_refused options NoMemory none = tt
 
 -- a command begins with its name
-pub unknown : (name : List ℕ) (rest : List (List ℕ)) → (name ≡ codes "create" → ⊥) → (name ≡ codes "check" → ⊥) → (name ≡ codes "pipe" → ⊥) → (c : Command) → IsCommand c (name ∷ rest) → ⊥
-unknown name rest create check pipe (command.Create folder) is = create (ap (λ (l : List (List ℕ)). get_or l 0 []) is)
-unknown name rest create check pipe (command.Check folder) is = check (ap (λ (l : List (List ℕ)). get_or l 0 []) is)
-unknown name rest create check pipe (command.Pipe folder trail) is = pipe (ap (λ (l : List (List ℕ)). get_or l 0 []) is.1)
+pub unknown : (name : List ℕ) (rest : List (List ℕ)) → (name ≡ codes "create" → ⊥) → (name ≡ codes "check" → ⊥) → (name ≡ codes "pipe" → ⊥)
+    → (name ≡ codes "generate" → ⊥) → (c : Command) → IsCommand c (name ∷ rest) → ⊥
+unknown name rest create check pipe generate (command.Create folder) is = create (ap (λ (l : List (List ℕ)). get_or l 0 []) is)
+unknown name rest create check pipe generate (command.Check folder) is = check (ap (λ (l : List (List ℕ)). get_or l 0 []) is)
+unknown name rest create check pipe generate (command.Pipe folder trail) is = pipe (ap (λ (l : List (List ℕ)). get_or l 0 []) is.1)
+unknown name rest create check pipe generate (command.Generate number) is = generate (ap (λ (l : List (List ℕ)). get_or l 0 []) is.1)
 
 -- no words are no command
 pub nothing : (c : Command) → IsCommand c [] → ⊥
 nothing (command.Create folder) is = cc
 nothing (command.Check folder) is = cc
 nothing (command.Pipe folder trail) is = let none = is.1 in cc
+nothing (command.Generate number) is = let none = is.1 in cc
 
 -- the same options give the same folder and trail
 same_pipe : (options others : List (List ℕ)) (f g : Option (List ℕ)) (t u : ℕ) → options ≡ others → IsPipeOf options f t → IsPipeOf others g u → command.Pipe f t ≡ command.Pipe g u
@@ -46,6 +73,12 @@ same_pipe options others f g t u same one other =
     let folder : f ≡ g = one.2 ∙ ap (λ (o : Options). o.folder) given ∙ sym other.2 in
     let trail : t ≡ u = one.3 ∙ ap (λ (o : Options). unwrap_or o.trail MAX_TRAIL) given ∙ sym other.3 in
     cc
+
+-- the same text is one number
+same_number : (text other : List ℕ) (n m : ℕ) → text ≡ other → IsNumber text n → IsNumber other m → command.Generate n ≡ command.Generate m
+same_number text other n m same one two =
+    let again : IsNumber other n = subst (λ (l : List ℕ). IsNumber l n) same one in
+    ap (λ (k : ℕ). command.Generate k) (again.value ∙ sym two.value)
 
 -- the second letter of the first word
 abbrev second_letter : List (List ℕ) → ℕ
@@ -69,6 +102,20 @@ one_command (command.Pipe f t) (command.Check g) words c d =
     let other = ap second_letter (sym c.1 ∙ d) in absurd (omega (arith, other))
 one_command (command.Pipe f t) (command.Pipe g u) words c d =
     same_pipe c.0 d.0 f g t u (ap (λ (l : List (List ℕ)). drop 1 l) (sym c.1 ∙ d.1)) c.2 d.2
+one_command (command.Create f) (command.Generate m) words c d =
+    let other = ap second_letter (sym c ∙ d.1) in absurd (omega (arith, other))
+one_command (command.Check f) (command.Generate m) words c d =
+    let other = ap second_letter (sym c ∙ d.1) in absurd (omega (arith, other))
+one_command (command.Pipe f t) (command.Generate m) words c d =
+    let other = ap second_letter (sym c.1 ∙ d.1) in absurd (omega (arith, other))
+one_command (command.Generate n) (command.Create g) words c d =
+    let other = ap second_letter (sym c.1 ∙ d) in absurd (omega (arith, other))
+one_command (command.Generate n) (command.Check g) words c d =
+    let other = ap second_letter (sym c.1 ∙ d) in absurd (omega (arith, other))
+one_command (command.Generate n) (command.Pipe g u) words c d =
+    let other = ap second_letter (sym c.1 ∙ d.1) in absurd (omega (arith, other))
+one_command (command.Generate n) (command.Generate m) words c d =
+    same_number c.0 d.0 n m (ap (λ (l : List (List ℕ)). get_or l 1 []) (sym c.1 ∙ d.1)) c.2 d.2
 
 -- one option more leaves it so
 within_more : (name value : List ℕ) (others all : Options) → AddsOption name value others all → unwrap_or others.trail MAX_TRAIL ≤ MAX_TRAIL → unwrap_or all.trail MAX_TRAIL ≤ MAX_TRAIL
@@ -89,6 +136,7 @@ trail_within (name ∷ value ∷ rest) all is = within_more name value is.0 all 
 pub has_trail : (c : Command) (words : List (List ℕ)) → IsCommand c words → HasTrail c
 has_trail (command.Create f) words is = tt
 has_trail (command.Check f) words is = tt
+has_trail (command.Generate n) words is = tt
 has_trail (command.Pipe f t) words is =
     subst (λ (n : ℕ). n ≤ MAX_TRAIL) (sym is.2.3) (trail_within is.0 is.2.0 is.2.1)
 

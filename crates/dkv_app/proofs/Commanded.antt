@@ -1,7 +1,10 @@
 -- What commands do, by their words.
-use Rattle.std.proofs.Common.{◌≡◌, ◌⊎◌, ⊎_elim, ℕ, Bool, true, false, List, [], Option, Some, None, refl, subst, inl, inr}
+use Rattle.std.proofs.Common.{◌≡◌, ◌⊎◌, ⊎_elim, ℕ, Bool, true, false, List, [], Option, Some, None, refl, sym, subst, inl, inr, arith}
 use Rattle.std.specs.Prelude.{IsSome}
+use Rattle.std.specs.Io.KnownBytes.{Appends}
 use Rattle.dkv_base.specs.State.{empty_state}
+use Rattle.dkv_io.proofs.Written.{appends_nothing}
+use Rattle.dkv_generate.proofs.Whole.{no_groups}
 use Rattle.dkv_files.specs.declared.pair.Pair.{Pair}
 use Rattle.dkv_pipe.specs.declared.pipe.PipeEnd.{PipeEnd}
 use Rattle.dkv_pipe.specs.declared.pipe.PipeEnd.TheVariants as end
@@ -14,6 +17,7 @@ use Rattle.dkv_app.specs.Commands.{HasFolder, InNoForm, IsCommand, NamesFolder}
 use Rattle.dkv_app.specs.Runs.{Does, Runs}
 use Rattle.dkv_app.specs.Statuses.{told}
 use Rattle.dkv_app.proofs.CommandWords.{one_command}
+use Rattle.dkv_app.proofs.GeneratedFrames.{are_the_frames}
 use Rattle.dkv_app.proofs.Idle.{nothing_written, unheard_creates}
 use Rattle.dkv_app.proofs.Piped.{nothing_ran}
 
@@ -49,6 +53,7 @@ module _ {S K R D : Type 0}
   heard (command.Pipe (Some f) t) source source_end sink sink_end random random_end (Some p) None does = does
   heard (command.Pipe (Some f) t) source source_end sink sink_end random random_end None q does = does
   heard (command.Pipe None t) source source_end sink sink_end random random_end p q does = never_told does.pipes.how does.pipes.status_is
+  heard (command.Generate n) source source_end sink sink_end random random_end p q does = does.generates
 
   -- a command whose words wanted memory did nothing
   idle : (c : Command) (source : S) (sink : K) (random : R) (files : Option (Pair D)) → (HasFolder c → IsSome files)
@@ -85,6 +90,17 @@ module _ {S K R D : Type 0}
     pipes = nothing_ran status.NoMemory t (streams (left source) (ended source) (held sink)) _ _ refl;
     unused = refl;
     undrawn = refl;
+  }
+  idle (command.Generate n) source sink random p has = record {
+    generates = record {
+      groups = 0;
+      some = omega arith;
+      written = subst (λ (l : List ℕ). Appends (held sink) (held sink) l) (sym (no_groups n)) (appends_nothing (held sink));
+    };
+    frames = are_the_frames n;
+    unread = refl;
+    undrawn = refl;
+    unused = refl;
   }
 
   -- words that name this command do what it does

@@ -2,6 +2,7 @@ mod Answered
 mod Checked
 mod CommandWords
 mod Commanded
+mod GeneratedFrames
 mod Idle
 mod OptionWords
 mod OverFiles

@@ -11,7 +11,7 @@ use Rattle.dkv_app.specs.declared.command.CommandError.{CommandError}
 use Rattle.dkv_app.specs.declared.command.CommandError.TheVariants.{BadWords, NoMemory}
 use Rattle.dkv_app.specs.declared.options.TheConstants.{MAX_TRAIL}
 use Rattle.dkv_app.specs.declared.options.Options.{Options}
-use Rattle.dkv_app.specs.Options.{AreOptions}
+use Rattle.dkv_app.specs.Options.{AreOptions, IsNumber}
 
 -- `pipe` and options: where no trail's weight is given, it is the greatest
 abbrev pub IsPipeOf : List (List ℕ) → Option (List ℕ) → ℕ → Type 0
@@ -19,12 +19,17 @@ IsPipeOf options folder trail =
     (given : Options) × AreOptions options given × (folder ≡ given.folder)
     × (trail ≡ unwrap_or given.trail MAX_TRAIL)
 
+-- `generate` and a number
+abbrev pub IsGenerateOf : ℕ → List (List ℕ) → Type 0
+IsGenerateOf number words = (text : List ℕ) × (words ≡ codes "generate" ∷ text ∷ []) × IsNumber text number
+
 -- the words of a command
 abbrev pub IsCommand : Command → List (List ℕ) → Type 0
 IsCommand (command.Create folder) words = words ≡ codes "create" ∷ folder ∷ []
 IsCommand (command.Check folder) words = words ≡ codes "check" ∷ folder ∷ []
 IsCommand (command.Pipe folder trail) words =
     (options : List (List ℕ)) × (words ≡ codes "pipe" ∷ options) × IsPipeOf options folder trail
+IsCommand (command.Generate number) words = IsGenerateOf number words
 
 -- no command's words
 abbrev pub InNoForm : List (List ℕ) → Type 0
@@ -36,12 +41,14 @@ HasFolder (command.Create folder) = ⊤
 HasFolder (command.Check folder) = ⊤
 HasFolder (command.Pipe (Some folder) trail) = ⊤
 HasFolder (command.Pipe None trail) = ⊥
+HasFolder (command.Generate number) = ⊥
 
 -- the weight of a trail is one that may be asked for
 abbrev pub HasTrail : Command → Type 0
 HasTrail (command.Create folder) = ⊤
 HasTrail (command.Check folder) = ⊤
 HasTrail (command.Pipe folder trail) = trail ≤ MAX_TRAIL
+HasTrail (command.Generate number) = ⊤
 
 -- the words of a command that names a folder
 abbrev pub NamesFolder : List (List ℕ) → Type 0

@@ -1,6 +1,7 @@
 pub mod Checking
 pub mod Commands
 pub mod Creating
+pub mod Generating
 pub mod Ids
 pub mod Options
 pub mod Piping

@@ -14,6 +14,7 @@ use Rattle.dkv_app.specs.Commands.{IsCommand, InNoForm}
 use Rattle.dkv_app.specs.Statuses.{Prints}
 use Rattle.dkv_app.specs.Creating.{Creates, CreateCause}
 use Rattle.dkv_app.specs.Checking.{Checks, CheckCause, Unopens, OpenCause}
+use Rattle.dkv_app.specs.Generating.{Generates, AreTheFrames}
 use Rattle.dkv_app.specs.Piping.{Pipes, PipesNew, DisksRose}
 
 -- this is so of the files before and after
@@ -83,6 +84,15 @@ module _ {S K R D : Type 0}
     pub unused : files_end ≡ files
     pub undrawn : random_end ≡ random
 
+  -- `generate`: nothing is read or drawn, no file is used, and what it writes at Ok is whole frames of `pipe`
+  pub record DoesGenerate (number : ℕ) (s : Status) (source source_end : S) (sink sink_end : K) (random random_end : R)
+      (files files_end : Option (Pair D)) : Type 0 where
+    pub generates : Generates s number (held sink) (held sink_end) (Rose (write_faults sink) (write_faults sink_end))
+    pub frames : AreTheFrames number
+    pub unread : source_end ≡ source
+    pub undrawn : random_end ≡ random
+    pub unused : files_end ≡ files
+
   -- what a command does
   abbrev pub Does : Command → Status → S → S → K → K → R → R → Option (Pair D) → Option (Pair D) → Type 0
   Does (command.Create folder) s source source_end sink sink_end random random_end files files_end =
@@ -93,6 +103,8 @@ module _ {S K R D : Type 0}
       WithFiles files files_end (DoesPipe trail s source source_end sink sink_end random random_end)
   Does (command.Pipe None trail) s source source_end sink sink_end random random_end files files_end =
       DoesPipeNew trail s source source_end sink sink_end random random_end files files_end
+  Does (command.Generate number) s source source_end sink sink_end random random_end files files_end =
+      DoesGenerate number s source source_end sink sink_end random random_end files files_end
 
   -- words that name a command do what it does, and all others nothing
   pub record Runs (texts : List (List ℕ)) (s : Status) (source source_end : S) (sink sink_end : K) (random random_end : R)

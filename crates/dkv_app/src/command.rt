@@ -1,8 +1,8 @@
 // The commands, and the words that name them.
-ghost use Rattle.std.specs.Prelude.{◌≡◌, ◌∷◌, [], codes, map, string_bytes};
+ghost use Rattle.std.specs.Prelude.{◌≡◌, ℕ, List, ◌∷◌, [], codes, map, string_bytes, MatchOption};
 ghost use Rattle.dkv_app.specs.Commands.{IsCommand, ReadsAs};
 
-use crate::options::{MAX_TRAIL, is_word, read_options};
+use crate::options::{MAX_TRAIL, is_word, number_of, read_options};
 use dkv_base::{Bytes, NoMemory};
 use std::alloc::Global;
 use thiserror::Error;
@@ -16,6 +16,8 @@ pub enum Command {
     Pipe { folder: Option<Bytes>, trail: u64 },
     /// `check FOLDER`
     Check { folder: Bytes },
+    /// `generate N`
+    Generate { number: u64 },
 }
 
 /// Why words name no command.
@@ -78,6 +80,32 @@ fn read_pipe(alloc: Global, words: &[String]) -> Result<Command, CommandError>
     }
 }
 
+// The text of the only word.
+fn only_text(words: &[String]) -> Option<&str>
+    ensures { MatchOption result
+        ((text : List ℕ) → map string_bytes words.now ≡ text ∷ [] → ⊥)
+        (λ text. map string_bytes words.now ≡ text.now ∷ []) }
+{
+    if words.len() != 1 {
+        return None;
+    }
+    Some(words[0].as_str())
+}
+
+// The command of these words behind `generate`.
+fn read_generate(words: &[String]) -> Result<Command, CommandError>
+    ensures { ReadsAs result
+        (λ command. IsCommand command (codes "generate" ∷ map string_bytes words.now)) }
+{
+    match only_text(words) {
+        None => Err(CommandError::BadWords),
+        Some(text) => match number_of(text) {
+            None => Err(CommandError::BadWords),
+            Some(number) => Ok(Command::Generate { number }),
+        },
+    }
+}
+
 /// Reads the words behind the program's name. Takes memory for the name of a folder.
 pub fn read_command(alloc: Global, words: &[String]) -> Result<Command, CommandError>
     ensures { ReadsAs result (λ command. IsCommand command (map string_bytes words.now)) }
@@ -92,6 +120,8 @@ pub fn read_command(alloc: Global, words: &[String]) -> Result<Command, CommandE
         read_check(alloc, rest)
     } else if is_word(name, "pipe") {
         read_pipe(alloc, rest)
+    } else if is_word(name, "generate") {
+        read_generate(rest)
     } else {
         Err(CommandError::BadWords)
     }

@@ -72,7 +72,8 @@ fn files_for(
         Command::Pipe {
             folder: None,
             trail: _,
-        } => return Ok(None),
+        }
+        | Command::Generate { number: _ } => return Ok(None),
     };
     Ok(Some(files_in(rt, alloc, folder.as_slice(), is_new)?))
 }

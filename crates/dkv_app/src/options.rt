@@ -30,8 +30,8 @@ pub(crate) fn is_word(word: &str, this: &str) -> bool
     word == this
 }
 
-// The number that a word is.
-fn number_of(word: &str) -> Option<u64>
+/// The number that a word is: one to twenty digits without a sign, of a value that 64 bits hold.
+pub(crate) fn number_of(word: &str) -> Option<u64>
     ensures { FindsAs result (λ n. IsNumber word.now n) }
 {
     if word.len() > MAX_DIGITS || word.starts_with('+') {

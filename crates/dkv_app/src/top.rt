@@ -8,6 +8,7 @@ ghost use Rattle.dkv_app.specs.Statuses.{Lines};
 use crate::checking::run_check;
 use crate::command::{Command, CommandError, read_command};
 use crate::creating::run_create;
+use crate::generating::run_generate;
 use crate::piping::{run_new, run_over};
 use crate::report::report;
 use crate::status::{Ended, Status};
@@ -56,6 +57,7 @@ fn run_command<S: Source, K: Sink, D: Disk, R: Random>(
             },
             files,
         ) => (run_new(alloc, source, sink, trail), files),
+        (Command::Generate { number }, files) => (run_generate(alloc, sink, number), files),
         (_, files) => (Status::NoDatabase, files),
     }
 }

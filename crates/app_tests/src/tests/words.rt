@@ -13,7 +13,7 @@ fn read(alloc: Global, line: &str) -> Result<Result<Command, CommandError>, Fail
     Ok(read_command(alloc, &words))
 }
 
-// A command as a letter, its folder, and its trail's weight.
+// A command as a letter, its folder, and its trail's weight or its number.
 fn seen(command: &Result<Command, CommandError>) -> (u8, &[u8], u64) {
     match command {
         Ok(Command::Create { folder }) => (b'm', folder.as_slice(), 0),
@@ -30,12 +30,13 @@ fn seen(command: &Result<Command, CommandError>) -> (u8, &[u8], u64) {
                 trail,
             },
         ) => (b'p', b"", *trail),
+        Ok(Command::Generate { number }) => (b'g', b"", *number),
         Err(CommandError::BadWords) => (b'b', b"", 0),
         Err(CommandError::NoMemory) => (b'n', b"", 0),
     }
 }
 
-const LINES: [(&str, u8, &[u8], u64); 31] = [
+const LINES: [(&str, u8, &[u8], u64); 43] = [
     ("create d", b'm', b"d", 0),
     ("create --trail", b'm', b"--trail", 0),
     ("check d", b'c', b"d", 0),
@@ -64,6 +65,18 @@ const LINES: [(&str, u8, &[u8], u64); 31] = [
     ("create", b'b', b"", 0),
     ("create d e", b'b', b"", 0),
     ("check", b'b', b"", 0),
+    ("generate 7", b'g', b"", 7),
+    ("generate 0", b'g', b"", 0),
+    ("generate 18446744073709551615", b'g', b"", u64::MAX),
+    ("generate 00000000000000000007", b'g', b"", 7),
+    ("generate 000000000000000000007", b'b', b"", 0),
+    ("generate 18446744073709551616", b'b', b"", 0),
+    ("generate +7", b'b', b"", 0),
+    ("generate -7", b'b', b"", 0),
+    ("generate 7x", b'b', b"", 0),
+    ("generate ", b'b', b"", 0),
+    ("generate", b'b', b"", 0),
+    ("generate 7 8", b'b', b"", 0),
     ("serve d", b'b', b"", 0),
     ("Pipe", b'b', b"", 0),
     ("", b'b', b"", 0),
