@@ -1,7 +1,7 @@
 -- What `generate` does.
 --     Generates s number old new rose      it ended so: what it wrote
 --     frames_of number, AreTheFrames number      the frames of `pipe` that the workload of a number is
-use Rattle.std.specs.Prelude.{ℕ, ⊤, true, false, List, Option, map}
+use Rattle.std.specs.Prelude.{ℕ, true, false, List, Option, map}
 use Rattle.std.specs.Io.KnownBytes.{Appends}
 use Rattle.dkv_base.specs.declared.types.Ask.{Ask}
 use Rattle.dkv_base.specs.declared.types.Ask.TheVariants as ask
