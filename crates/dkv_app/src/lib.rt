@@ -3,9 +3,10 @@
 //!
 //! The layer above may rely on this: the exit status and the error line are those of how the command
 //! ended; `create` and `check` print what their clauses say of the files; the output of `pipe` is what
-//! `dkv_pipe` says of the frames that were read, and that of `generate` the workload of its number; stopped at any moment, the files stand as those clauses
-//! say; and words that name no command run nothing. `run_here` is the program over the system's own
-//! streams, files and random bytes, which tell nothing.
+//! `dkv_pipe` says of the frames that were read, and that of `generate` the workload of its number;
+//! stopped at any moment, the files stand as those clauses say; and words that name no command run
+//! nothing. `run_here` is the program over the system's own streams, files and random bytes, which
+//! tell nothing.
 #![tactic(auto)]
 
 mod checking;
