@@ -32,7 +32,7 @@ use Rattle.dkv_pipe.specs.Wishes.{asks}
 use Rattle.dkv_pipe.specs.ReplyFrames.{reply_bytes, bytes_of_reply, answer_bytes}
 use Rattle.dkv_pipe.specs.Courses.{situation_of}
 use Rattle.dkv_pipe.specs.Doubts.{asked_commit}
-use Rattle.dkv_pipe.specs.Told.{is_write, done_told, Tells, TellsTake, IsUnstopped, IsSure, IsSureTake}
+use Rattle.dkv_pipe.specs.Told.{is_write, done_told, Tells, TellsTake, IsUnstopped, IsUnstoppedTake, IsFaultlessTake}
 use Rattle.dkv_pipe.specs.Grants.{Grants, IsRefusedFor}
 use Rattle.dkv_pipe.proofs.Grants.{answered_granted}
 
@@ -90,14 +90,21 @@ no_stop s who t place none is =
     never None e = absurd (cc e)
     never (Some m) e = leased m _ e
 
-pub take_sure : {D : Type 0} (old new : Contents D) (who at : ℕ) (came : Result Taken Refusal) → first_stop old.trail ≡ None → AnswersTake old who at came new → IsSureTake came
-take_sure old new who at (Ok x) none is e same = absurd (cc same)
-take_sure old new who at (Err refusal.NoMemory) none is e same = let is_e : refusal.NoMemory ≡ e = cc same in subst IsSure is_e tt
-take_sure old new who at (Err (refusal.Full bytes limit)) none is e same = let is_e : refusal.Full bytes limit ≡ e = cc same in subst IsSure is_e tt
-take_sure old new who at (Err refusal.DiskFault) none is e same = absurd is
-take_sure old new who at (Err (refusal.Stopped place)) none is e same =
+pub take_faultless : {D : Type 0} (old new : Contents D) (who at : ℕ) (came : Result Taken Refusal) → AnswersTake old who at came new → IsFaultlessTake came
+take_faultless old new who at (Ok x) is same = absurd (cc same)
+take_faultless old new who at (Err refusal.NoMemory) is same = absurd (cc same)
+take_faultless old new who at (Err (refusal.Full bytes limit)) is same = absurd (cc same)
+take_faultless old new who at (Err (refusal.Stopped place)) is same = absurd (cc same)
+take_faultless old new who at (Err refusal.DiskFault) is same = absurd is
+
+pub take_unstopped : {D : Type 0} (old new : Contents D) (who at : ℕ) (came : Result Taken Refusal) → first_stop old.trail ≡ None → AnswersTake old who at came new → IsUnstoppedTake came
+take_unstopped old new who at (Ok x) none is place same = absurd (cc same)
+take_unstopped old new who at (Err refusal.NoMemory) none is place same = absurd (cc same)
+take_unstopped old new who at (Err (refusal.Full bytes limit)) none is place same = absurd (cc same)
+take_unstopped old new who at (Err refusal.DiskFault) none is place same = absurd is
+take_unstopped old new who at (Err (refusal.Stopped there)) none is place same =
     let s = situation_of old in
-    absurd (no_stop s who (effective s at) place none (is s (record { state = refl; out = λ id. refl; greatest = refl; trail = refl; limited = refl })).0)
+    absurd (no_stop s who (effective s at) there none (is s (record { state = refl; out = λ id. refl; greatest = refl; trail = refl; limited = refl })).0)
 
 module _ {D : Type 0} (seen : D → Option (List ℕ)) (images : D → List ℕ → Type 0) (faults moment : D → ℕ) (since : D → ℕ → List ℕ → Type 0) (old new : Contents D) (who at : ℕ) where
   abbrev t : ℕ

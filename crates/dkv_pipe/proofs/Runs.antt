@@ -53,7 +53,7 @@ raised_stands s old new t stands is = record {
   out = λ id. stands.out id ∙ ap (λ (ids : List MsgId). is_out id ids) (sym is.out);
   greatest = sym is.greatest;
   trail = stands.trail ∙ sym is.trail;
-  limited = stands.limited;
+  limited = stands.limited ∙ sym is.limit;
 }
 
 same_stands : {D : Type 0} (s : Situation) (old new : Contents D) → StandsFor s old → IsRaisedTo old.core.greatest old new → StandsFor s new
@@ -62,7 +62,7 @@ same_stands s old new stands is = record {
   out = λ id. stands.out id ∙ ap (λ (ids : List MsgId). is_out id ids) (sym is.out);
   greatest = stands.greatest ∙ sym is.greatest;
   trail = stands.trail ∙ sym is.trail;
-  limited = stands.limited;
+  limited = stands.limited ∙ sym is.limit;
 }
 
 -- the doubt of a frame in a situation is the one in its store

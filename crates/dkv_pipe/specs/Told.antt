@@ -71,16 +71,13 @@ TellsTake (Ok (taken.Nothing next)) result = result ≡ Ok (answer_bytes (answer
 TellsTake (Err e) (Ok out) = IsFullTold e out
 TellsTake (Err e) (Err none) = e ≡ refusal.NoMemory
 
--- neither a stop nor a fault
-abbrev pub IsSure : Refusal → Type 0
-IsSure refusal.DiskFault = ⊥
-IsSure (refusal.Stopped place) = ⊥
-IsSure (refusal.Full bytes limit) = ⊤
-IsSure refusal.NoMemory = ⊤
-
--- no stop came in between, of a commit, and neither that nor a fault, of a take
+-- no stop came in between, of a commit and of a take
 abbrev pub IsUnstopped : Result Done Refusal → Type 0
 IsUnstopped came = (place : ℕ) → came ≡ Err (refusal.Stopped place) → ⊥
 
-abbrev pub IsSureTake : Result Taken Refusal → Type 0
-IsSureTake came = (e : Refusal) → came ≡ Err e → IsSure e
+abbrev pub IsUnstoppedTake : Result Taken Refusal → Type 0
+IsUnstoppedTake came = (place : ℕ) → came ≡ Err (refusal.Stopped place) → ⊥
+
+-- nor a fault, of a take
+abbrev pub IsFaultlessTake : Result Taken Refusal → Type 0
+IsFaultlessTake came = came ≡ Err refusal.DiskFault → ⊥

@@ -5,7 +5,7 @@ ghost use Rattle.dkv_base.specs.Replies.{full};
 ghost use Rattle.dkv_base.specs.declared.types.Answer.TheVariants.{Leased, NoLease, Nothing, NotU64};
 ghost use Rattle.dkv_base.specs.Spelling.{id_bytes};
 ghost use Rattle.dkv_pipe.specs.ReplyFrames.{answer_bytes, bytes_of_reply, limit_bytes, malformed_bytes, reply_bytes};
-ghost use Rattle.dkv_pipe.specs.Told.{is_write, made_bytes, IsSureTake, IsUnstopped, Tells, TellsTake};
+ghost use Rattle.dkv_pipe.specs.Told.{is_write, made_bytes, IsFaultlessTake, IsUnstopped, IsUnstoppedTake, Tells, TellsTake};
 ghost use Rattle.dkv_pipe.specs.declared.reply_status.ReplyStatus.TheVariants as status;
 ghost use Rattle.dkv_pipe.specs.declared.sizes.TheConstants.{MAX_FRONT_BYTES};
 
@@ -142,7 +142,8 @@ fn nothing(alloc: Global, next: Option<u64>) -> Reply
 
 /// The reply that tells what a take came to. Takes no memory.
 pub(crate) fn tell_take(alloc: Global, came: Result<Taken, Refusal>) -> Result<Reply, NoMemory>
-    requires { IsSureTake came }
+    requires faultless { IsFaultlessTake came }
+    requires unstopped { IsUnstoppedTake came }
     ensures { TellsTake came result }
 {
     match came {
@@ -150,6 +151,7 @@ pub(crate) fn tell_take(alloc: Global, came: Result<Taken, Refusal>) -> Result<R
         Ok(Taken::Nothing { next }) => Ok(nothing(alloc, next)),
         Err(Refusal::Full { trail_bytes, limit }) => Ok(full(alloc, trail_bytes, limit)),
         Err(Refusal::NoMemory) => Err(NoMemory),
-        Err(Refusal::DiskFault | Refusal::Stopped { .. }) => unreachable!(),
+        Err(Refusal::DiskFault) => unreachable!(),
+        Err(Refusal::Stopped { .. }) => unreachable!(),
     }
 }
