@@ -1,7 +1,9 @@
 // With ample memory every command does its work, and every frame is answered.
 use super::files::run;
-use super::running::{ACKNOWLEDGE, FAIL, KEY, NOT_OUT, NOTHING, READ, SET, TAKE, WRITE, frame, joined};
-use super::running::{NONE_FOUND, WRITTEN};
+use super::running::{
+    ACKNOWLEDGE, FAIL, KEY, NONE_FOUND, NOT_OUT, NOTHING, READ, SET, TAKE, WRITE, WRITTEN, frame,
+    joined,
+};
 use std::process::Abort;
 use std::test::*;
 
@@ -29,7 +31,12 @@ fn ample_memory_never_answers_no_memory(rt: HostRuntime) -> Result<(), Fail> {
         input = joined(alloc, &[&input, &frame(alloc, 5, kind, body)?])?;
         wanted = joined(alloc, &[&wanted, reply])?;
     }
-    for line in ["pipe", "pipe --trail 1000", "pipe --folder d", "pipe --trail 1000 --folder d"] {
+    for line in [
+        "pipe",
+        "pipe --trail 1000",
+        "pipe --folder d",
+        "pipe --trail 1000 --folder d",
+    ] {
         let left = run(alloc, line, &input, &made.a, &[])?;
         assert_eq!(rt; left.exit, 0);
         assert_eq!(rt; left.out.as_slice(), wanted.as_slice());

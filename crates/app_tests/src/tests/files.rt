@@ -79,7 +79,13 @@ fn run_with(
 }
 
 // The same with as many as are drawn, and no fault of file b.
-pub(super) fn run(alloc: Global, line: &str, input: &[u8], file: &[u8], fails: &[u64]) -> Result<Left, Fail>
+pub(super) fn run(
+    alloc: Global,
+    line: &str,
+    input: &[u8],
+    file: &[u8],
+    fails: &[u64],
+) -> Result<Left, Fail>
     requires { length file.now < 2 ^ 63 }
 {
     run_with(alloc, line, input, file, fails, &[], 48)

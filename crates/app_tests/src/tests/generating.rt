@@ -8,11 +8,7 @@ use std::process::Abort;
 use std::test::*;
 
 // Runs `generate` and this number. Gives the exit status and what the error output got.
-fn generated<K: Sink>(
-    alloc: Global,
-    number: &str,
-    sink: &mut K,
-) -> Result<(u8, Vec<u8>), Fail> {
+fn generated<K: Sink>(alloc: Global, number: &str, sink: &mut K) -> Result<(u8, Vec<u8>), Fail> {
     let mut words = Vec::new(alloc);
     words.push(String::from_str(alloc, "generate")?)?;
     words.push(String::from_str(alloc, number)?)?;
