@@ -2,7 +2,6 @@
 use super::files::run;
 use super::running::{
     ACKNOWLEDGE, FAIL, KEY, NONE_FOUND, NOT_OUT, NOTHING, READ, SET, TAKE, WRITE, WRITTEN, frame,
-    joined,
 };
 use std::process::Abort;
 use std::test::*;
@@ -28,8 +27,9 @@ fn ample_memory_never_answers_no_memory(rt: HostRuntime) -> Result<(), Fail> {
     let mut input = Vec::new(alloc);
     let mut wanted = Vec::new(alloc);
     for (kind, body, reply) in FRAMES {
-        input = joined(alloc, &[&input, &frame(alloc, 5, kind, body)?])?;
-        wanted = joined(alloc, &[&wanted, reply])?;
+        let one = frame(alloc, 5, kind, body)?;
+        input.extend_from_slice(&one)?;
+        wanted.extend_from_slice(reply)?;
     }
     for line in [
         "pipe",
