@@ -78,6 +78,14 @@ damaged 100 7 'damaged: file 0 at 72'
 damaged 1 6 'no database'
 damaged 0 6 'no database'
 
+# where calls can be traced: the record is on the disk before its gate is opened, and the open gate before the reply is written
+if command -v strace >/dev/null 2>&1 && strace -o /dev/null true 2>/dev/null; then
+    "$program" create "$folder/traced" >/dev/null || fail "'create' failed"
+    head -c 33 examples/first.frames | strace -o "$folder/calls" -e trace=pwrite64,fdatasync,write "$program" pipe --folder "$folder/traced" >/dev/null || fail "a traced 'pipe' failed"
+    order=$(sed -n 's/^\([a-z0-9]*\)(.*/\1/p' "$folder/calls" | tail -n 5 | tr '\n' ' ')
+    [ "$order" = 'pwrite64 fdatasync pwrite64 fdatasync write ' ] || fail "a commit's calls are $order"
+fi
+
 # one process holds the files from its first reply on
 mkfifo "$folder/frames"
 "$program" pipe --folder "$database" <"$folder/frames" >"$folder/held" &
