@@ -269,6 +269,17 @@ fn a_watcher_polls_until_it_leaves(rt: HostRuntime) -> Result<(), Fail> {
     Ok(())
 }
 
+// How many answers a run of these steps gives.
+fn answers(
+    rt: &impl Abort,
+    alloc: Global,
+    core: &mut Core,
+    steps: &[Step],
+) -> Result<usize, NoMemory> {
+    assert!(rt; core.number() < 1000 && steps.len() < 1000);
+    Ok(core.run(alloc, steps)?.len())
+}
+
 #[test]
 fn a_watch_goes_on_beside_a_run(rt: HostRuntime) -> Result<(), Fail> {
     let alloc = rt.alloc();
@@ -279,14 +290,13 @@ fn a_watch_goes_on_beside_a_run(rt: HostRuntime) -> Result<(), Fail> {
         at: 5,
         ask: Ask::Write(write_of(alloc, "set a 8")?),
     })?;
-    assert!(rt; core.number() < 1000 && steps.len() == 1);
     let mut watcher = watch(&rt, alloc, &mut core)?;
     let first = polls(&rt, alloc, &mut core, &mut watcher, &[(1, 5), (0, 5)]);
-    let went = core.run(alloc, &steps);
+    let went = answers(&rt, alloc, &mut core, &steps);
     let then = polls(&rt, alloc, &mut core, &mut watcher, &[(1, 5), (0, 5)]);
     core.unwatch(watcher);
     first?;
-    assert_eq!(rt; went?.len(), 1);
+    assert_eq!(rt; went?, 1);
     then?;
     Ok(())
 }
