@@ -2,8 +2,9 @@
 # How fast `denokv pipe` answers frames: megabytes a second for writes of small and of large values, how the time grows with
 # the number of frames, frames a second for reads and writes over 1,000 and over 100,000 keys, also where a tenth of the keys
 # ends at each step, a million SETs in three orders with the memory that they take, the moment at which 100,000 keys end,
-# rounds a second of an enqueue, a take and an acknowledgement while 10 and while 100,000 messages wait, and frames a second of the
-# workload that `generate` writes. Skipped where python3 is missing.
+# rounds a second of an enqueue, a take and an acknowledgement while 10 and while 100,000 messages wait, and of the workload that
+# `generate` writes frames a second, with `--summary` too and beside SQLite in memory, and instructions a frame where valgrind is there.
+# Skipped where python3 is missing.
 set -u
 cd "$(dirname "$0")/.." || exit 2
 if ! command -v python3 >/dev/null 2>&1; then
@@ -14,15 +15,15 @@ folder=$(mktemp -d) || exit 2
 trap 'rm -rf "$folder"' EXIT
 ./denokv pipe </dev/null || exit 1
 
-# seconds FILE: the least of three runs over the frames of the file
+# seconds FILE [OPTION]: the least of three runs over the frames of the file
 seconds() {
-    python3 - "$1" <<'PYTHON'
+    python3 - "$@" <<'PYTHON'
 import subprocess, sys, time
 best = None
 for _ in range(3):
     with open(sys.argv[1], "rb") as source:
         start = time.perf_counter()
-        subprocess.run(["crates/denokv/out/denokv", "pipe"], stdin=source, stdout=subprocess.DEVNULL, check=True)
+        subprocess.run(["crates/denokv/out/denokv", "pipe", *sys.argv[2:]], stdin=source, stdout=subprocess.DEVNULL, check=True)
         took = time.perf_counter() - start
     best = took if best is None else min(best, took)
 print(f"{best:.4f}")
@@ -70,11 +71,24 @@ dying() {
         'BEGIN { printf "%d keys that end at one moment: %.3f s, %.0f bytes an entry before\n", keys, all - load, (most - none) / keys - 17 }'
 }
 
+# instructions OPTION..: how many valgrind counts in a run over the frames of a workload, or 0 where it is missing
+instructions() {
+    command -v valgrind >/dev/null 2>&1 || { echo 0; return; }
+    valgrind --tool=callgrind --callgrind-out-file="$folder/counted" crates/denokv/out/denokv pipe "$@" <"$folder/frames" 2>&1 >/dev/null |
+        sed -n 's/^.*I *refs: *//p' | tr -d ,
+}
+
 # workload NUMBER: the frames that `generate` makes of the number
 workload() {
     crates/denokv/out/denokv generate "$1" >"$folder/frames" || exit 1
-    awk -v number="$1" -v s="$(seconds "$folder/frames")" \
-        'BEGIN { printf "the workload of %d: %.3f s, %.0f frames/s\n", number, s, 24000 / s }'
+    crates/denokv/out/denokv pipe --summary <"$folder/frames" || exit 1
+    awk -v number="$1" -v s="$(seconds "$folder/frames")" -v brief="$(seconds "$folder/frames" --summary)" -v sqlite="$(python3 bench/sqlite.py "$1")" \
+        'BEGIN {
+            printf "the workload of %d: %.3f s, %.0f frames/s; with --summary %.3f s, %.0f frames/s\n", number, s, 24000 / s, brief, 24000 / brief
+            printf "the same operations in SQLite in memory, from Python: %.3f s, %.0f a second\n", sqlite, 24000 / sqlite
+        }'
+    awk -v all="$(instructions)" -v brief="$(instructions --summary)" \
+        'BEGIN { if (all > 0) printf "instructions a frame: %.0f, with --summary %.0f\n", all / 24000, brief / 24000 }'
 }
 
 for frames in 1000 10000 100000; do

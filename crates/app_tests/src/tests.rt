@@ -8,6 +8,8 @@ mod limits;
 mod queue;
 mod reads;
 mod running;
+mod summary;
+mod terms;
 mod told;
 mod words;
 mod writes;

@@ -20,6 +20,17 @@ names_differ name folder trail =
     let other = ap (λ (l : List ℕ). get_or l 2 0) trail in
     absurd (omega (arith, one, other))
 
+-- a summary is named otherwise than both
+pub unlike : {X : Type 0} (name value : List ℕ) (others all : Options) → name ≡ codes "--summary" → AddsOption name value others all → X
+unlike name value others all summary (inl folder) =
+    let one = ap (λ (l : List ℕ). get_or l 2 0) summary in
+    let other = ap (λ (l : List ℕ). get_or l 2 0) folder.0 in
+    absurd (omega (arith, one, other))
+unlike name value others all summary (inr trail) =
+    let one = ap (λ (l : List ℕ). get_or l 2 0) summary in
+    let other = ap (λ (l : List ℕ). get_or l 2 0) trail.0 in
+    absurd (omega (arith, one, other))
+
 -- an option of this name adds a folder
 pub adds_folder : (name value : List ℕ) (others all : Options) → name ≡ codes "--folder" → AddsOption name value others all → AddsFolder value others all
 adds_folder name value others all named (inl folder) = folder.1

@@ -1,6 +1,6 @@
 -- Words that are commands.
 use Rattle.std.proofs.Common.{◌≡◌, ◌∙◌, ◌≤◌, ℕ, List, [], ◌∷◌, Some, Ok, Err, codes, get_or, drop, ap, sym, subst, arith, inl, inr}
-use Rattle.std.specs.Prelude.{unwrap_or, IfOk, IsSome}
+use Rattle.std.specs.Prelude.{Bool, unwrap_or, IfOk, IsSome}
 use Rattle.std.specs.declared.option.Option.{Option}
 use Rattle.std.specs.declared.result.Result.{Result}
 use Rattle.dkv_app.specs.declared.command.Command.{Command}
@@ -10,7 +10,7 @@ use Rattle.dkv_app.specs.declared.command.CommandError.TheVariants.{BadWords, No
 use Rattle.dkv_app.specs.declared.options.Options.{Options}
 use Rattle.dkv_app.specs.declared.options.TheConstants.{MAX_TRAIL}
 use Rattle.dkv_app.specs.Commands.{ReadsAs, IsCommand, IsPipeOf, HasFolder, HasTrail, InNoForm, NamesFolder}
-use Rattle.dkv_app.specs.Options.{AddsOption, AreOptions, IsNumber}
+use Rattle.dkv_app.specs.Options.{AddsOption, AddsSummary, AreOptions, IsNumber, no_options}
 use Rattle.dkv_app.proofs.OptionWords.{are_one}
 
 -- words that are no options name no command behind `pipe`
@@ -19,7 +19,7 @@ no_pipe options none (command.Create folder) is =
     let other = ap (λ (l : List (List ℕ)). get_or (get_or l 0 []) 0 0) is in absurd (omega (arith, other))
 no_pipe options none (command.Check folder) is =
     let other = ap (λ (l : List (List ℕ)). get_or (get_or l 0 []) 0 0) is in absurd (omega (arith, other))
-no_pipe options none (command.Pipe folder trail) is =
+no_pipe options none (command.Pipe folder trail summary) is =
     none is.2.0 (subst (λ (l : List (List ℕ)). AreOptions l is.2.0) (sym (ap (λ (l : List (List ℕ)). drop 1 l) is.1)) is.2.1)
 no_pipe options none (command.Generate number) is =
     let other = ap (λ (l : List (List ℕ)). get_or (get_or l 0 []) 0 0) is.1 in absurd (omega (arith, other))
@@ -30,7 +30,7 @@ no_generate texts none (command.Create folder) is =
     let other = ap (λ (l : List (List ℕ)). get_or (get_or l 0 []) 0 0) is in absurd (omega (arith, other))
 no_generate texts none (command.Check folder) is =
     let other = ap (λ (l : List (List ℕ)). get_or (get_or l 0 []) 0 0) is in absurd (omega (arith, other))
-no_generate texts none (command.Pipe folder trail) is =
+no_generate texts none (command.Pipe folder trail summary) is =
     let other = ap (λ (l : List (List ℕ)). get_or (get_or l 0 []) 0 0) is.1 in absurd (omega (arith, other))
 no_generate texts none (command.Generate number) is = none is.0 number (ap (λ (l : List (List ℕ)). drop 1 l) is.1) is.2
 
@@ -55,23 +55,25 @@ pub unknown : (name : List ℕ) (rest : List (List ℕ)) → (name ≡ codes "cr
     → (name ≡ codes "generate" → ⊥) → (c : Command) → IsCommand c (name ∷ rest) → ⊥
 unknown name rest create check pipe generate (command.Create folder) is = create (ap (λ (l : List (List ℕ)). get_or l 0 []) is)
 unknown name rest create check pipe generate (command.Check folder) is = check (ap (λ (l : List (List ℕ)). get_or l 0 []) is)
-unknown name rest create check pipe generate (command.Pipe folder trail) is = pipe (ap (λ (l : List (List ℕ)). get_or l 0 []) is.1)
+unknown name rest create check pipe generate (command.Pipe folder trail summary) is = pipe (ap (λ (l : List (List ℕ)). get_or l 0 []) is.1)
 unknown name rest create check pipe generate (command.Generate number) is = generate (ap (λ (l : List (List ℕ)). get_or l 0 []) is.1)
 
 -- no words are no command
 pub nothing : (c : Command) → IsCommand c [] → ⊥
 nothing (command.Create folder) is = cc
 nothing (command.Check folder) is = cc
-nothing (command.Pipe folder trail) is = let none = is.1 in cc
+nothing (command.Pipe folder trail summary) is = let none = is.1 in cc
 nothing (command.Generate number) is = let none = is.1 in cc
 
--- the same options give the same folder and trail
-same_pipe : (options others : List (List ℕ)) (f g : Option (List ℕ)) (t u : ℕ) → options ≡ others → IsPipeOf options f t → IsPipeOf others g u → command.Pipe f t ≡ command.Pipe g u
-same_pipe options others f g t u same one other =
+-- the same options give the same folder, trail and summary
+same_pipe : (options others : List (List ℕ)) (f g : Option (List ℕ)) (t u : ℕ) (p q : Bool) → options ≡ others → IsPipeOf options f t p → IsPipeOf others g u q
+    → command.Pipe f t p ≡ command.Pipe g u q
+same_pipe options others f g t u p q same one other =
     let again : AreOptions others one.0 = subst (λ (l : List (List ℕ)). AreOptions l one.0) same one.1 in
     let given : one.0 ≡ other.0 = are_one others one.0 other.0 again other.1 in
     let folder : f ≡ g = one.2 ∙ ap (λ (o : Options). o.folder) given ∙ sym other.2 in
     let trail : t ≡ u = one.3 ∙ ap (λ (o : Options). unwrap_or o.trail MAX_TRAIL) given ∙ sym other.3 in
+    let summary : p ≡ q = one.4 ∙ ap (λ (o : Options). o.summary) given ∙ sym other.4 in
     cc
 
 -- the same text is one number
@@ -89,30 +91,30 @@ pub one_command : (c d : Command) (words : List (List ℕ)) → IsCommand c word
 one_command (command.Create f) (command.Create g) words c d = ap (λ (l : List (List ℕ)). command.Create (get_or l 1 [])) (sym c ∙ d)
 one_command (command.Create f) (command.Check g) words c d =
     let other = ap second_letter (sym c ∙ d) in absurd (omega (arith, other))
-one_command (command.Create f) (command.Pipe g u) words c d =
+one_command (command.Create f) (command.Pipe g u q) words c d =
     let other = ap second_letter (sym c ∙ d.1) in absurd (omega (arith, other))
 one_command (command.Check f) (command.Create g) words c d =
     let other = ap second_letter (sym c ∙ d) in absurd (omega (arith, other))
 one_command (command.Check f) (command.Check g) words c d = ap (λ (l : List (List ℕ)). command.Check (get_or l 1 [])) (sym c ∙ d)
-one_command (command.Check f) (command.Pipe g u) words c d =
+one_command (command.Check f) (command.Pipe g u q) words c d =
     let other = ap second_letter (sym c ∙ d.1) in absurd (omega (arith, other))
-one_command (command.Pipe f t) (command.Create g) words c d =
+one_command (command.Pipe f t p) (command.Create g) words c d =
     let other = ap second_letter (sym c.1 ∙ d) in absurd (omega (arith, other))
-one_command (command.Pipe f t) (command.Check g) words c d =
+one_command (command.Pipe f t p) (command.Check g) words c d =
     let other = ap second_letter (sym c.1 ∙ d) in absurd (omega (arith, other))
-one_command (command.Pipe f t) (command.Pipe g u) words c d =
-    same_pipe c.0 d.0 f g t u (ap (λ (l : List (List ℕ)). drop 1 l) (sym c.1 ∙ d.1)) c.2 d.2
+one_command (command.Pipe f t p) (command.Pipe g u q) words c d =
+    same_pipe c.0 d.0 f g t u p q (ap (λ (l : List (List ℕ)). drop 1 l) (sym c.1 ∙ d.1)) c.2 d.2
 one_command (command.Create f) (command.Generate m) words c d =
     let other = ap second_letter (sym c ∙ d.1) in absurd (omega (arith, other))
 one_command (command.Check f) (command.Generate m) words c d =
     let other = ap second_letter (sym c ∙ d.1) in absurd (omega (arith, other))
-one_command (command.Pipe f t) (command.Generate m) words c d =
+one_command (command.Pipe f t p) (command.Generate m) words c d =
     let other = ap second_letter (sym c.1 ∙ d.1) in absurd (omega (arith, other))
 one_command (command.Generate n) (command.Create g) words c d =
     let other = ap second_letter (sym c.1 ∙ d) in absurd (omega (arith, other))
 one_command (command.Generate n) (command.Check g) words c d =
     let other = ap second_letter (sym c.1 ∙ d) in absurd (omega (arith, other))
-one_command (command.Generate n) (command.Pipe g u) words c d =
+one_command (command.Generate n) (command.Pipe g u q) words c d =
     let other = ap second_letter (sym c.1 ∙ d.1) in absurd (omega (arith, other))
 one_command (command.Generate n) (command.Generate m) words c d =
     same_number c.0 d.0 n m (ap (λ (l : List (List ℕ)). get_or l 1 []) (sym c.1 ∙ d.1)) c.2 d.2
@@ -126,18 +128,25 @@ within_more name value others all (inr trail) within =
     let is : all.trail ≡ Some trail.1.1 = ap (λ (o : Options). o.trail) trail.1.3 in
     subst (λ (o : Option ℕ). unwrap_or o MAX_TRAIL ≤ MAX_TRAIL) (sym is) trail.1.2.most
 
+-- and so does a summary
+still_within : (others all : Options) → AddsSummary others all → unwrap_or others.trail MAX_TRAIL ≤ MAX_TRAIL → unwrap_or all.trail MAX_TRAIL ≤ MAX_TRAIL
+still_within others all adds within =
+    let same : all.trail ≡ others.trail = ap (λ (o : Options). o.trail) adds.1 in
+    subst (λ (o : Option ℕ). unwrap_or o MAX_TRAIL ≤ MAX_TRAIL) (sym same) within
+
 -- the weight of a trail among options is one that may be asked for
 trail_within : (options : List (List ℕ)) (all : Options) → AreOptions options all → unwrap_or all.trail MAX_TRAIL ≤ MAX_TRAIL
 trail_within [] all is = subst (λ (o : Options). unwrap_or o.trail MAX_TRAIL ≤ MAX_TRAIL) (sym is) (omega arith)
-trail_within (name ∷ []) all is = absurd is
-trail_within (name ∷ value ∷ rest) all is = within_more name value is.0 all is.2 (trail_within rest is.0 is.1)
+trail_within (name ∷ []) all is = still_within no_options all is.1 (omega arith)
+trail_within (name ∷ value ∷ rest) all (inl flag) = still_within flag.0 all flag.2.1 (trail_within (value ∷ rest) flag.0 flag.1)
+trail_within (name ∷ value ∷ rest) all (inr option) = within_more name value option.0 all option.2 (trail_within rest option.0 option.1)
 
 -- a command's trail is one that may be asked for
 pub has_trail : (c : Command) (words : List (List ℕ)) → IsCommand c words → HasTrail c
 has_trail (command.Create f) words is = tt
 has_trail (command.Check f) words is = tt
 has_trail (command.Generate n) words is = tt
-has_trail (command.Pipe f t) words is =
+has_trail (command.Pipe f t p) words is =
     subst (λ (n : ℕ). n ≤ MAX_TRAIL) (sym is.2.3) (trail_within is.0 is.2.0 is.2.1)
 
 -- the command of words that name a folder has one

@@ -48,11 +48,11 @@ module _ {S K R D : Type 0}
   heard (command.Check f) source source_end sink sink_end random random_end (Some p) (Some q) does = does.cause
   heard (command.Check f) source source_end sink sink_end random random_end (Some p) None does = does
   heard (command.Check f) source source_end sink sink_end random random_end None q does = does
-  heard (command.Pipe (Some f) t) source source_end sink sink_end random random_end (Some p) (Some q) does =
+  heard (command.Pipe (Some f) t m) source source_end sink sink_end random random_end (Some p) (Some q) does =
       ⊎_elim (λ refuses. refuses.cause) (λ pipes. never_told pipes.how pipes.status_is) does.pipes
-  heard (command.Pipe (Some f) t) source source_end sink sink_end random random_end (Some p) None does = does
-  heard (command.Pipe (Some f) t) source source_end sink sink_end random random_end None q does = does
-  heard (command.Pipe None t) source source_end sink sink_end random random_end p q does = never_told does.pipes.how does.pipes.status_is
+  heard (command.Pipe (Some f) t m) source source_end sink sink_end random random_end (Some p) None does = does
+  heard (command.Pipe (Some f) t m) source source_end sink sink_end random random_end None q does = does
+  heard (command.Pipe None t m) source source_end sink sink_end random random_end p q does = never_told does.pipes.how does.pipes.status_is
   heard (command.Generate n) source source_end sink sink_end random random_end p q does = does.generates
 
   -- a command whose words wanted memory did nothing
@@ -76,7 +76,7 @@ module _ {S K R D : Type 0}
     undrawn = refl;
   }
   idle (command.Check f) source sink random None has = none_there (has tt)
-  idle (command.Pipe (Some f) t) source sink random (Some p) has = record {
+  idle (command.Pipe (Some f) t m) source sink random (Some p) has = record {
     pipes = inl (record {
       unopened = λ fa fb told_a told_b. tt;
       cause = tt;
@@ -85,9 +85,9 @@ module _ {S K R D : Type 0}
     });
     undrawn = refl;
   }
-  idle (command.Pipe (Some f) t) source sink random None has = none_there (has tt)
-  idle (command.Pipe None t) source sink random p has = record {
-    pipes = nothing_ran status.NoMemory t (streams (left source) (ended source) (held sink)) _ _ refl;
+  idle (command.Pipe (Some f) t m) source sink random None has = none_there (has tt)
+  idle (command.Pipe None t m) source sink random p has = record {
+    pipes = nothing_ran status.NoMemory t m (streams (left source) (ended source) (held sink)) _ _ refl;
     unused = refl;
     undrawn = refl;
   }

@@ -1,20 +1,21 @@
 -- A run over two files, from their opening on.
 use Rattle.std.proofs.Common.{◌≡◌, ◌∙◌, ◌⊎◌, ◌≤◌, ◌<◌, ◌^◌, ℕ, List, [], Option, Some, None, refl, sym, subst, inl, inr}
-use Rattle.dkv_base.specs.declared.types.Commit.{Commit}
+use Rattle.std.specs.Prelude.{Bool}
 use Rattle.dkv_base.specs.State.{State}
 use Rattle.dkv_base.specs.Steps.{opened}
-use Rattle.dkv_base.specs.Trails.{commits}
+use Rattle.dkv_base.specs.Sound.{IsSound}
 use Rattle.dkv_io.specs.Disks.{Moves, EachPair, PairImages, stays, a_moves, b_moves}
 use Rattle.dkv_io.proofs.Moves.{joined, weaker}
 use Rattle.dkv_io.proofs.Seen.{still_told}
-use Rattle.dkv_files.specs.Crashes.{RunLeaves, WhereBothTold, WritesNothing, StandsOrDoubtful, read}
+use Rattle.dkv_files.specs.Crashes.{WhereBothTold, WritesNothing, StandsOrDoubtful, read}
+use Rattle.dkv_store.specs.Attempts.{Attempt, RunLeaves}
 use Rattle.dkv_store.specs.Stores.{Contents, IsOpened}
 use Rattle.dkv_store.specs.Terms.{GoesOn, Leads, FilesStand}
 use Rattle.dkv_store.proofs.Going.{goes_start}
 use Rattle.dkv_io.specs.Causes.{Rose}
 use Rattle.dkv_pipe.specs.declared.pipe.PipeEnd.{PipeEnd}
 use Rattle.dkv_pipe.specs.Courses.{situation_of}
-use Rattle.dkv_pipe.specs.Doubts.{doubts_of}
+use Rattle.dkv_pipe.specs.Attempts.{attempts_of}
 use Rattle.dkv_pipe.specs.Ends.{Streams, HasEndCause}
 use Rattle.dkv_pipe.specs.Stores.{RunsTo}
 use Rattle.dkv_pipe.specs.Whole.{Completes}
@@ -36,23 +37,23 @@ module _ {D : Type 0} (images : D → List ℕ → Type 0) (moment : D → ℕ) 
   at_end P a b c d (a_moves x y z u v leaves rest) = at_end P z y c d rest
   at_end P a b c d (b_moves x y z u v leaves rest) = at_end P x z c d rest
 
-  module _ (seen : D → Option (List ℕ)) (a b : D) (first last : Contents D) (doubts : List (ℕ × Commit)) (fa fb : List ℕ)
-      (sure : first.doubt ≡ None) (told_a : seen first.a ≡ Some fa) (told_b : seen first.b ≡ Some fb)
-      (leads : Leads seen images moment since doubts first last) where
-    goes : GoesOn seen images moment since doubts first last
-    goes = leads first [] (goes_start seen images moment since first sure)
+  module _ (seen : D → Option (List ℕ)) (a b : D) (first last : Contents D) (attempts : List Attempt) (fa fb : List ℕ)
+      (sound : IsSound first.core.state) (sure : first.doubt ≡ None) (told_a : seen first.a ≡ Some fa) (told_b : seen first.b ≡ Some fb)
+      (leads : Leads seen images moment since attempts first last) where
+    goes : GoesOn seen images moment since attempts first last
+    goes = leads first [] (goes_start seen images moment since first sound sure)
 
     -- each image in the opening and in the run is one of the run
     pub run_moves : WritesNothing images moment since a b first.a first.b
-        → Moves images moment since (RunLeaves (images a) (images b) read first.who first.base (commits last.trail) doubts) a b last.a last.b
+        → Moves images moment since (RunLeaves (images a) (images b) read first.who first.core.state attempts) a b last.a last.b
     run_moves opening =
-        joined images moment since (RunLeaves (images a) (images b) read first.who first.base (commits last.trail) doubts) a b first.a first.b last.a last.b
-        (weaker images moment since (PairImages (images a) (images b)) (RunLeaves (images a) (images b) read first.who first.base (commits last.trail) doubts)
+        joined images moment since (RunLeaves (images a) (images b) read first.who first.core.state attempts) a b first.a first.b last.a last.b
+        (weaker images moment since (PairImages (images a) (images b)) (RunLeaves (images a) (images b) read first.who first.core.state attempts)
         (λ x y was. inl was) a b first.a first.b opening)
-        (weaker images moment since (RunLeaves (images first.a) (images first.b) read first.who first.base (commits last.trail) doubts) (RunLeaves (images a) (images b) read first.who first.base (commits last.trail) doubts)
+        (weaker images moment since (RunLeaves (images first.a) (images first.b) read first.who first.core.state attempts) (RunLeaves (images a) (images b) read first.who first.core.state attempts)
         (λ x y is. from_first x y is) first.a first.b last.a last.b (goes.moves fa fb told_a told_b))
       where
-        from_first : (x y : List ℕ) → RunLeaves (images first.a) (images first.b) read first.who first.base (commits last.trail) doubts x y → RunLeaves (images a) (images b) read first.who first.base (commits last.trail) doubts x y
+        from_first : (x y : List ℕ) → RunLeaves (images first.a) (images first.b) read first.who first.core.state attempts x y → RunLeaves (images a) (images b) read first.who first.core.state attempts x y
         from_first x y (inl was) = inl (at_end (PairImages (images a) (images b)) a b first.a first.b opening x y was.0 was.1)
         from_first x y (inr made) = inr made
 
@@ -64,7 +65,7 @@ module _ {D : Type 0} (images : D → List ℕ → Type 0) (moment : D → ℕ) 
         stand of_a.file of_b.file of_a.seen of_b.seen
 
 module _ {D : Type 0} (seen : D → Option (List ℕ)) (images : D → List ℕ → Type 0) (faults moment : D → ℕ) (since : D → ℕ → List ℕ → Type 0)
-    (s : Status) (limit : ℕ) (e : PipeEnd) (before after : Streams) (read_rose write_rose : Type 0) (a b : D) (first last : Contents D) where
+    (s : Status) (limit : ℕ) (summary : Bool) (e : PipeEnd) (before after : Streams) (read_rose write_rose : Type 0) (a b : D) (first last : Contents D) where
   -- one of the two counts rose in the run
   abbrev pub RunRose : Type 0
   RunRose = Rose (faults first.a) (faults last.a) ⊎ Rose (faults first.b) (faults last.b)
@@ -75,13 +76,13 @@ module _ {D : Type 0} (seen : D → Option (List ℕ)) (images : D → List ℕ 
   rose_since later (inr rose) = inr (rose_earlier (faults b) (faults first.b) (faults last.b) later.1 rose)
 
   -- two files were opened, and then it ran over them
-  over_last : s ≡ told e → WhereBothTold (seen a) (seen b) (λ fa fb. IsOpened images fa fb first) → first.core.greatest ≡ first.base.moment → first.limit ≡ limit → first.core.state.number < 2 ^ 62
+  over_last : s ≡ told e → WhereBothTold (seen a) (seen b) (λ fa fb. IsOpened images fa fb first) → first.core.greatest ≡ first.base.moment → first.limit ≡ limit → first.core.state.number < 2 ^ 62 → IsSound first.base
       → (seen first.a ≡ seen a) × (seen first.b ≡ seen b) → (faults a ≤ faults first.a) × (faults b ≤ faults first.b)
-      → WritesNothing images moment since a b first.a first.b → RunsTo seen images faults moment since e before after first last
-      → HasEndCause e after.ended read_rose write_rose → Completes e (situation_of first) before after read_rose write_rose RunRose
+      → WritesNothing images moment since a b first.a first.b → RunsTo seen images faults moment since summary e before after first last
+      → HasEndCause e after.ended read_rose write_rose → Completes summary e (situation_of first) before after read_rose write_rose RunRose
       → FilesStand seen images last
-      → Pipes seen images faults moment since s limit before after read_rose write_rose a b last.a last.b
-  over_last is opens late under low told_as later opening run cause completes stand = record {
+      → Pipes seen images faults moment since s limit summary before after read_rose write_rose a b last.a last.b
+  over_last is opens late under low sound told_as later opening run cause completes stand = record {
     how = e;
     first = first;
     last = last;
@@ -95,25 +96,25 @@ module _ {D : Type 0} (seen : D → Option (List ℕ)) (images : D → List ℕ 
         };
     run = run;
     cause = cause;
-    complete = completes_more e (situation_of first) before after read_rose write_rose RunRose (DisksRose faults a b last.a last.b) (rose_since later) completes;
+    complete = completes_more summary e (situation_of first) before after read_rose write_rose RunRose (DisksRose faults a b last.a last.b) (rose_since later) completes;
     later = later;
     ends = (refl, refl);
     moves = λ fa fb told_a told_b.
-        run_moves images moment since seen a b first last (doubts_of (situation_of first) run.course.frames run.course.marks) fa fb
-        (opens fa fb told_a told_b).doubt (told_as.0 ∙ told_a) (told_as.1 ∙ told_b) run.leads opening;
+        run_moves images moment since seen a b first last (attempts_of (situation_of first) run.course.frames run.course.marks) fa fb
+        (subst IsSound (sym (opens fa fb told_a told_b).state) sound) (opens fa fb told_a told_b).doubt (told_as.0 ∙ told_a) (told_as.1 ∙ told_b) run.leads opening;
     stands = λ fa fb told_a told_b.
-        run_stands images moment since seen a b first last (doubts_of (situation_of first) run.course.frames run.course.marks) fa fb
-        (opens fa fb told_a told_b).doubt (told_as.0 ∙ told_a) (told_as.1 ∙ told_b) run.leads stand;
+        run_stands images moment since seen a b first last (attempts_of (situation_of first) run.course.frames run.course.marks) fa fb
+        (subst IsSound (sym (opens fa fb told_a told_b).state) sound) (opens fa fb told_a told_b).doubt (told_as.0 ∙ told_a) (told_as.1 ∙ told_b) run.leads stand;
   }
 
   pub over_pipes : (a_end b_end : D) → a_end ≡ last.a → b_end ≡ last.b
-      → s ≡ told e → WhereBothTold (seen a) (seen b) (λ fa fb. IsOpened images fa fb first) → first.core.greatest ≡ first.base.moment → first.limit ≡ limit → first.core.state.number < 2 ^ 62
+      → s ≡ told e → WhereBothTold (seen a) (seen b) (λ fa fb. IsOpened images fa fb first) → first.core.greatest ≡ first.base.moment → first.limit ≡ limit → first.core.state.number < 2 ^ 62 → IsSound first.base
       → (seen first.a ≡ seen a) × (seen first.b ≡ seen b) → (faults a ≤ faults first.a) × (faults b ≤ faults first.b)
-      → WritesNothing images moment since a b first.a first.b → RunsTo seen images faults moment since e before after first last
-      → HasEndCause e after.ended read_rose write_rose → Completes e (situation_of first) before after read_rose write_rose RunRose
+      → WritesNothing images moment since a b first.a first.b → RunsTo seen images faults moment since summary e before after first last
+      → HasEndCause e after.ended read_rose write_rose → Completes summary e (situation_of first) before after read_rose write_rose RunRose
       → FilesStand seen images last
-      → Pipes seen images faults moment since s limit before after read_rose write_rose a b a_end b_end
-  over_pipes a_end b_end is_a is_b is opens late under low told_as later opening run cause completes stand =
-      subst (λ (x : D). Pipes seen images faults moment since s limit before after read_rose write_rose a b x b_end) (sym is_a)
-      (subst (λ (x : D). Pipes seen images faults moment since s limit before after read_rose write_rose a b last.a x) (sym is_b)
-      (over_last is opens late under low told_as later opening run cause completes stand))
+      → Pipes seen images faults moment since s limit summary before after read_rose write_rose a b a_end b_end
+  over_pipes a_end b_end is_a is_b is opens late under low sound told_as later opening run cause completes stand =
+      subst (λ (x : D). Pipes seen images faults moment since s limit summary before after read_rose write_rose a b x b_end) (sym is_a)
+      (subst (λ (x : D). Pipes seen images faults moment since s limit summary before after read_rose write_rose a b last.a x) (sym is_b)
+      (over_last is opens late under low sound told_as later opening run cause completes stand))

@@ -64,10 +64,10 @@ module _ {S K R D : Type 0}
     pub undrawn : random_end ≡ random
 
   -- `pipe` with a folder: its files are not opened, or it ran over them; nothing is drawn
-  pub record DoesPipe (trail : ℕ) (s : Status) (source source_end : S) (sink sink_end : K) (random random_end : R)
+  pub record DoesPipe (trail : ℕ) (summary : Bool) (s : Status) (source source_end : S) (sink sink_end : K) (random random_end : R)
       (p q : Pair D) : Type 0 where
     pub pipes : Refuses seen images faults moment since s ((source_end ≡ source) × (sink_end ≡ sink)) p q
-        ⊎ Pipes seen images faults moment since s trail
+        ⊎ Pipes seen images faults moment since s trail summary
         (streams (left source) (ended source) (held sink))
         (streams (left source_end) (ended source_end) (held sink_end))
         (Rose (read_faults source) (read_faults source_end)) (Rose (write_faults sink) (write_faults sink_end))
@@ -75,9 +75,9 @@ module _ {S K R D : Type 0}
     pub undrawn : random_end ≡ random
 
   -- `pipe` without a folder: it ran over a new database; no file is used, and nothing is drawn
-  pub record DoesPipeNew (trail : ℕ) (s : Status) (source source_end : S) (sink sink_end : K) (random random_end : R)
+  pub record DoesPipeNew (trail : ℕ) (summary : Bool) (s : Status) (source source_end : S) (sink sink_end : K) (random random_end : R)
       (files files_end : Option (Pair D)) : Type 0 where
-    pub pipes : PipesNew s trail
+    pub pipes : PipesNew s trail summary
         (streams (left source) (ended source) (held sink))
         (streams (left source_end) (ended source_end) (held sink_end))
         (Rose (read_faults source) (read_faults source_end)) (Rose (write_faults sink) (write_faults sink_end))
@@ -99,10 +99,10 @@ module _ {S K R D : Type 0}
       WithFiles files files_end (DoesCreate s source source_end sink sink_end random random_end)
   Does (command.Check folder) s source source_end sink sink_end random random_end files files_end =
       WithFiles files files_end (DoesCheck s source source_end sink sink_end random random_end)
-  Does (command.Pipe (Some folder) trail) s source source_end sink sink_end random random_end files files_end =
-      WithFiles files files_end (DoesPipe trail s source source_end sink sink_end random random_end)
-  Does (command.Pipe None trail) s source source_end sink sink_end random random_end files files_end =
-      DoesPipeNew trail s source source_end sink sink_end random random_end files files_end
+  Does (command.Pipe (Some folder) trail summary) s source source_end sink sink_end random random_end files files_end =
+      WithFiles files files_end (DoesPipe trail summary s source source_end sink sink_end random random_end)
+  Does (command.Pipe None trail summary) s source source_end sink sink_end random random_end files files_end =
+      DoesPipeNew trail summary s source source_end sink sink_end random random_end files files_end
   Does (command.Generate number) s source source_end sink sink_end random random_end files files_end =
       DoesGenerate number s source source_end sink sink_end random random_end files files_end
 

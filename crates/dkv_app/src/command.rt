@@ -11,13 +11,24 @@ use thiserror::Error;
 #[derive(Debug, Drop)]
 pub enum Command {
     /// `create FOLDER`
-    Create { folder: Bytes },
-    /// `pipe [--folder FOLDER] [--trail N]`: the trail's greatest weight is in bytes, from 1,000 to 268,435,456.
-    Pipe { folder: Option<Bytes>, trail: u64 },
+    Create {
+        folder: Bytes,
+    },
+    /// `pipe [--folder FOLDER] [--trail N] [--summary]`: the trail's greatest weight is in bytes, from 1,000 to
+    /// 268,435,456.
+    Pipe {
+        folder: Option<Bytes>,
+        trail: u64,
+        summary: bool,
+    },
     /// `check FOLDER`
-    Check { folder: Bytes },
+    Check {
+        folder: Bytes,
+    },
     /// `generate N`
-    Generate { number: u64 },
+    Generate {
+        number: u64,
+    },
 }
 
 /// Why words name no command.
@@ -75,6 +86,7 @@ fn read_pipe(alloc: Global, words: &[String]) -> Result<Command, CommandError>
         Ok(options) => Ok(Command::Pipe {
             folder: options.folder,
             trail: options.trail.unwrap_or(MAX_TRAIL),
+            summary: options.summary,
         }),
         Err(error) => Err(error),
     }

@@ -68,10 +68,12 @@ fn files_for(
         Command::Pipe {
             folder: Some(folder),
             trail: _,
+            summary: _,
         } => (folder, false),
         Command::Pipe {
             folder: None,
             trail: _,
+            summary: _,
         }
         | Command::Generate { number: _ } => return Ok(None),
     };

@@ -17,7 +17,6 @@ mod here;
 mod ids;
 mod opening;
 mod options;
-mod pieces;
 mod piping;
 mod program;
 mod report;

@@ -1,7 +1,7 @@
-// The options of `pipe`: in any order, each at most once, its value the next word.
+// The options of `pipe`: in any order, each at most once, its value the next word. A summary has no value.
 ghost use Rattle.std.specs.Prelude.{◌≡◌, ◌↔◌, true, map, string_bytes};
 ghost use Rattle.dkv_app.specs.Commands.{FindsAs, ReadsAs};
-ghost use Rattle.dkv_app.specs.Options.{IsNumber, IsTrail, AddsFolder, AddsTrail, AddsOption, AreOptions, no_options};
+ghost use Rattle.dkv_app.specs.Options.{IsNumber, IsTrail, AddsFolder, AddsTrail, AddsSummary, AddsOption, AreOptions, no_options};
 
 use crate::command::CommandError;
 use dkv_base::{Bytes, NoMemory};
@@ -16,11 +16,15 @@ pub const MAX_TRAIL: u64 = 268_435_456;
 // The most digits of a number.
 const MAX_DIGITS: usize = 20;
 
+// The most words that options are: two for each of those that have a value, and one for a summary.
+const MAX_WORDS: usize = 5;
+
 /// The options that were given.
 #[derive(Debug, Drop)]
 pub struct Options {
     pub folder: Option<Bytes>,
     pub trail: Option<u64>,
+    pub summary: bool,
 }
 
 /// Whether a word is this one.
@@ -58,6 +62,7 @@ impl Options {
         Options {
             folder: None,
             trail: None,
+            summary: false,
         }
     }
 
@@ -71,6 +76,7 @@ impl Options {
             Ok(folder) => Ok(Options {
                 folder: Some(folder),
                 trail: self.trail,
+                summary: self.summary,
             }),
             Err(NoMemory) => Err(CommandError::NoMemory),
         }
@@ -83,12 +89,26 @@ impl Options {
             (None, Some(trail)) => Ok(Options {
                 folder: self.folder,
                 trail: Some(trail),
+                summary: self.summary,
             }),
             _ => Err(CommandError::BadWords),
         }
     }
 
-    // These options, and one before them.
+    fn with_summary(self) -> Result<Options, CommandError>
+        ensures { ReadsAs result (λ all. AddsSummary self all) }
+    {
+        if self.summary {
+            return Err(CommandError::BadWords);
+        }
+        Ok(Options {
+            folder: self.folder,
+            trail: self.trail,
+            summary: true,
+        })
+    }
+
+    // These options, and one with a value before them.
     fn with(self, alloc: Global, name: &str, value: &str) -> Result<Options, CommandError>
         ensures { ReadsAs result (λ all. AddsOption name.now value.now self all) }
     {
@@ -102,21 +122,34 @@ impl Options {
     }
 }
 
-/// Reads the words behind `pipe`, from the last option to the first. Takes memory for the folder.
-pub(crate) fn read_options(alloc: Global, words: &[String]) -> Result<Options, CommandError>
+// The options that these words are. It calls itself for the words behind the first option.
+fn options_in(alloc: Global, words: &[String]) -> Result<Options, CommandError>
     ensures { ReadsAs result (λ all. AreOptions (map string_bytes words.now) all) }
 {
-    if words.len() % 2 == 1 {
-        return Err(CommandError::BadWords);
-    }
-    let mut read = Ok(Options::none());
-    let mut at = words.len();
-    while at >= 2 {
-        at -= 2;
-        read = match read {
-            Ok(options) => options.with(alloc, words[at].as_str(), words[at + 1].as_str()),
+    let Some((name, rest)) = words.split_first() else {
+        return Ok(Options::none());
+    };
+    if is_word(name.as_str(), "--summary") {
+        return match options_in(alloc, rest) {
+            Ok(others) => others.with_summary(),
             Err(error) => Err(error),
         };
     }
-    read
+    let Some((value, rest)) = rest.split_first() else {
+        return Err(CommandError::BadWords);
+    };
+    match options_in(alloc, rest) {
+        Ok(others) => others.with(alloc, name.as_str(), value.as_str()),
+        Err(error) => Err(error),
+    }
+}
+
+/// Reads the words behind `pipe`. Takes memory for the folder.
+pub(crate) fn read_options(alloc: Global, words: &[String]) -> Result<Options, CommandError>
+    ensures { ReadsAs result (λ all. AreOptions (map string_bytes words.now) all) }
+{
+    if words.len() > MAX_WORDS {
+        return Err(CommandError::BadWords);
+    }
+    options_in(alloc, words)
 }

@@ -1,4 +1,4 @@
-// `pipe`: the frames of a source are answered over a new database, or over that of two files.
+// `pipe`: the frames of a source are answered over a new database, or over that of two files, by replies or a summary.
 ghost use Rattle.std.specs.Prelude.{◌≡◌, ◌⊎◌, ◌≤◌};
 ghost use Rattle.dkv_io.specs.Causes.{Rose};
 ghost use Rattle.dkv_pipe.specs.Ends.{streams};
@@ -21,9 +21,10 @@ pub(crate) fn run_new<S: Source, K: Sink>(
     source: &mut S,
     sink: &mut K,
     trail: u64,
+    summary: bool,
 ) -> Status
     requires { trail ≤ MAX_TRAIL }
-    ensures { PipesNew result trail
+    ensures { PipesNew result trail summary
         (streams (S.left source.old) (S.ended source.old) (K.held sink.old))
         (streams (S.left source.new) (S.ended source.new) (K.held sink.new))
         (Rose (S.faults source.old) (S.faults source.new))
@@ -35,7 +36,7 @@ pub(crate) fn run_new<S: Source, K: Sink>(
     };
     match Store::fresh(alloc, pair, trail) {
         Ok(store) => {
-            let (end, store) = run_pipe(alloc, source, sink, store);
+            let (end, store) = run_pipe(alloc, source, sink, store, summary);
             let _pair = store.close();
             Status::of(end)
         }
@@ -51,11 +52,12 @@ pub(crate) fn run_over<S: Source, K: Sink, D: Disk>(
     sink: &mut K,
     pair: Pair<D>,
     trail: u64,
+    summary: bool,
 ) -> (Status, Pair<D>)
     requires { trail ≤ MAX_TRAIL }
     ensures { Refuses D.seen D.may_leave D.faults D.moment D.left_since
         result.0 ((source.new ≡ source.old) × (sink.new ≡ sink.old)) pair result.1
-        ⊎ Pipes D.seen D.may_leave D.faults D.moment D.left_since result.0 trail
+        ⊎ Pipes D.seen D.may_leave D.faults D.moment D.left_since result.0 trail summary
         (streams (S.left source.old) (S.ended source.old) (K.held sink.old))
         (streams (S.left source.new) (S.ended source.new) (K.held sink.new))
         (Rose (S.faults source.old) (S.faults source.new))
@@ -64,7 +66,8 @@ pub(crate) fn run_over<S: Source, K: Sink, D: Disk>(
 {
     match open(alloc, pair, trail) {
         Ok(store) => {
-            let (end, store) = run_pipe(alloc, source, sink, store);
+            store.is_kept();
+            let (end, store) = run_pipe(alloc, source, sink, store, summary);
             store.is_kept();
             (Status::of(end), store.close())
         }

@@ -6,9 +6,9 @@ ghost use Rattle.dkv_io.specs.Streams.{AppendsFront};
 ghost use Rattle.dkv_app.specs.Statuses.{Lines, line};
 ghost use Rattle.dkv_app.specs.declared.status.Status.TheVariants as status;
 
-use crate::pieces::write_pieces;
 use crate::status::Status;
 use dkv_io::{Failed, Sink};
+use dkv_lines::write_pieces;
 use itoa::Buffer;
 
 // Writes a text, a number and the line's end.

@@ -5,8 +5,8 @@ ghost use Rattle.dkv_io.specs.Causes.{HasCause};
 ghost use Rattle.dkv_io.specs.Streams.{AppendsFront};
 ghost use Rattle.dkv_app.specs.Ids.{created_line, database_lines};
 
-use crate::pieces::write_pieces;
 use dkv_io::{Failed, Sink};
+use dkv_lines::write_pieces;
 use itoa::Buffer;
 use uuid::Uuid;
 

@@ -44,19 +44,21 @@ fn run_command<S: Source, K: Sink, D: Disk, R: Random>(
             Command::Pipe {
                 folder: Some(_),
                 trail,
+                summary,
             },
             Some(pair),
         ) => {
-            let (status, pair) = run_over(alloc, source, sink, pair, trail);
+            let (status, pair) = run_over(alloc, source, sink, pair, trail, summary);
             (status, Some(pair))
         }
         (
             Command::Pipe {
                 folder: None,
                 trail,
+                summary,
             },
             files,
-        ) => (run_new(alloc, source, sink, trail), files),
+        ) => (run_new(alloc, source, sink, trail, summary), files),
         (Command::Generate { number }, files) => (run_generate(alloc, sink, number), files),
         (_, files) => (Status::NoDatabase, files),
     }

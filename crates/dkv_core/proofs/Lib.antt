@@ -4,9 +4,9 @@ pub mod Going
 pub mod Settles
 pub mod Replying
 pub mod Running
-mod SeatRows
-mod Seated
-mod Watching
+pub mod SeatRows
+pub mod Seated
+pub mod Watching
 pub mod Indexed
 mod PutInOrder
 mod Seen

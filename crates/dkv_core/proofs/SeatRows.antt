@@ -1,4 +1,4 @@
--- The rows of those who watch beside a run's seats.
+-- The rows of those who watch beside the seats of callers.
 use Rattle.std.proofs.Common.{◌≡◌, ℕ, zero, suc, ◌<◌, Bool, true, false, cond, not, ◌||◌, ◌&&◌, ◌==◌, List, [], ◌∷◌, ◌++◌, length, get_or, set, filter, None, refl, sym, ap, subst, ◌∙◌, arith}
 use Rattle.std.specs.List.{list_any}
 use Rattle.std.specs.Cmp.Lexicographic.{pointwise}
@@ -83,7 +83,7 @@ both_tests a b (r ∷ rows) =
       | false ↦ ap (λ ks. cond (not (b r)) (r ∷ ks) ks) (both_tests a b rows)
     ]
 
--- ---- what the calls of a run leave
+-- ---- what the calls leave
 
 -- with no seats
 pub beside_none : (rows : List WatchRow) → rows_beside [] rows ≡ rows

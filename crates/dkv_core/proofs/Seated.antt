@@ -34,9 +34,11 @@ placed who seats =
       | false ↦ λ ge. find_at (is_seat_of who) seats ∙ past_end seats i (ltb-false i (length seats) ge)
     ] refl
 
+-- the place that was found
 pub place_found : (who : ℕ) (seats : List Seat) (i : ℕ) → Some i ≡ position (is_seat_of who) seats → IsPlace who seats i
 place_found who seats i is = subst (λ (o : Option ℕ). Placed who seats o) (sym is) (placed who seats)
 
+-- where none was found, the caller has no seat
 pub none_placed : (who : ℕ) (seats : List Seat) → None ≡ position (is_seat_of who) seats → seat_of who seats ≡ None
 none_placed who seats is = subst (λ (o : Option ℕ). Placed who seats o) (sym is) (placed who seats)
 
@@ -90,7 +92,7 @@ seated_push who seats s none own = record {
 -- ---- the watches of a situation
 
 -- another caller's watch stays where this caller's is taken out
-other_stays : (who k : ℕ) (ws : List Watching) → (who == k) ≡ false → watch_of k (filter (λ w. not (w.caller == who)) ws) ≡ watch_of k ws
+pub other_stays : (who k : ℕ) (ws : List Watching) → (who == k) ≡ false → watch_of k (filter (λ w. not (w.caller == who)) ws) ≡ watch_of k ws
 other_stays who k [] other = refl
 other_stays who k (w ∷ ws) other =
     let rest = other_stays who k ws other in
@@ -120,10 +122,12 @@ pub record Watches (w : Option Watching) (s : Seat) : Type 0 where
   pub keys : watch.keys ≡ s.watcher.keys
   pub told : last_told s.watcher.shown ≡ Some watch.last
 
+-- the watch that a caller with a seat has
 pub watches_seat : (w : Option Watching) (s : Seat) → IsWatchOf w (Some s) → Watches w s
 watches_seat None s h = absurd h
 watches_seat (Some v) s h = record { watch = v; is = refl; keys = h.0; told = h.1 }
 
+-- a caller without a seat has none
 pub watches_none : (w : Option Watching) → IsWatchOf w None → w ≡ None
 watches_none None h = refl
 watches_none (Some v) h = absurd h

@@ -51,6 +51,7 @@ beside_of c d seats who t a r leaves is = λ s stands are.
 
 -- ---- a new watch
 
+-- a watch of keys that pass a limit changes nothing
 pub watch_limited : (c : Database) (seats : List Seat) (who t : ℕ) (keys : List (List ℕ)) (passed : Limit) → watch_limit keys ≡ Some passed
     → IsAnsweredBeside c seats who t (ask.Watch keys) (answer.Limit passed) c seats
 watch_limited c seats who t keys passed is = λ s stands are.
@@ -62,6 +63,7 @@ shown_there s c d who t keys same stands =
     let up = rises s c d t same stands in
     record { state = up.state; out = up.out; greatest = up.greatest; unstopped = up.unstopped; unlimited = up.unlimited }
 
+-- a new watch that has shown its first frame
 pub watch_begun : (c d : Database) (seats new : List Seat) (who t : ℕ) (keys : List (List ℕ)) (f : Option Frame) → watch_limit keys ≡ None → HasBegun c who t keys seats f new → SameAt c t d
     → IsAnsweredBeside c seats who t (ask.Watch keys) (answer.Frame f) d new
 watch_begun c d seats new who t keys f free begun same = λ s stands are. (
@@ -74,11 +76,13 @@ watch_begun c d seats new who t keys f free begun same = λ s stands are. (
 
 -- ---- a poll
 
+-- a caller without a seat polls in vain
 pub poll_none : (c : Database) (seats : List Seat) (who t : ℕ) → seat_of who seats ≡ None → IsAnsweredBeside c seats who t ask.Poll answer.NoWatch c seats
 poll_none c seats who t none = λ s stands are.
     let absent : watch_of who s.watchers ≡ None = watches_none (watch_of who s.watchers) (subst (λ (o : Option Seat). IsWatchOf (watch_of who s.watchers) o) none (are who)) in
     (ap (λ (o : Option Watching). option_map_or (λ w. said (answer.Frame (frame s.state t w.keys (Some w.last)))) o (said answer.NoWatch)) absent, stands, are)
 
+-- a seat whose watcher has shown what a poll tells
 pub poll_shown : (c d : Database) (seats new : List Seat) (old s' : Seat) (who t : ℕ) (f : Option Frame) → seat_of who seats ≡ Some old → IsSeatedAnew who seats s' new
     → s'.watcher.keys ≡ old.watcher.keys → last_told s'.watcher.shown ≡ Some (shown c.state t old.watcher.keys) → f ≡ frame c.state t old.watcher.keys (last_told old.watcher.shown) → SameAt c t d
     → IsAnsweredBeside c seats who t ask.Poll (answer.Frame f) d new
@@ -109,6 +113,7 @@ as_step c d seats new p a t r at asks is = λ s stands are.
     let led : To (reply_to s p.who (effective s p.at) p.ask) = subst To (sym here.0) (here.1, here.2) in
     (here.0, led.0, led.1)
 
+-- the steps of no watch leave the seats
 pub step_read : (c d : Database) (seats : List Seat) (p : Step) (ranges : List ReadRange) (t : ℕ) (r : Answer) → t ≡ max (capped_moment p.at) c.greatest → p.ask ≡ ask.Read ranges
     → IsAnswered c p.who t (ask.Read ranges) r d → IsStep c seats p r d seats
 step_read c d seats p ranges t r at asks is = as_step c d seats seats p (ask.Read ranges) t r at asks (beside_of c d seats p.who t (ask.Read ranges) r (leaves_read p.who t ranges) is)

@@ -1,17 +1,18 @@
--- The callers of a run who watch, beside the core: each has a seat with its watcher.
+-- The callers who watch, beside a core: each has a seat with its watcher.
 --     is_seat_of who s      whether the seat is the caller's
 --     rows_beside seats rows      the rows but those of the watchers in the seats
 --     AreWatchesOf ws seats      whether each caller's watch in a situation is the one in its seat
 --     IsSeatedAnew who seats s new      whether the caller's seat is this one now, and the other callers' are as before
+--     rows_after gone rows      the rows once the watcher that a new seat hands back has ended
 --     AreWithRow before s rows      whether the rows are those before, and then the new row of the seat's watcher
 --     HasBegun c who t keys seats f new      whether a new watch of the caller has shown this first frame, in its seat
-use Rattle.std.specs.Prelude.{ℕ, ◌≡◌, Bool, false, not, ◌==◌, IsTrue, List, [], ◌∷◌, ◌++◌, filter, find, Option, Some, None}
+use Rattle.std.specs.Prelude.{ℕ, ◌≡◌, Bool, false, not, ◌==◌, IsTrue, List, [], ◌∷◌, ◌++◌, filter, find, Option, Some, None, Result, Ok, Err}
 use Rattle.std.specs.List.{list_any}
 use Rattle.dkv_base.specs.declared.types.Frame.{Frame}
 use Rattle.dkv_base.specs.Replies.{frame, shown}
 use Rattle.dkv_base.specs.Steps.{Watching, watch_of}
 use Rattle.dkv_hub.specs.Frames.{last_told}
-use Rattle.dkv_hub.specs.Rows.{WatchRow, is_free, is_row_of, new_row}
+use Rattle.dkv_hub.specs.Rows.{Watch, WatchRow, is_free, is_row_of, new_row, rows_without}
 use Rattle.dkv_core.specs.Cores.{Database}
 use Rattle.dkv_core.specs.declared.seats.Seat.{Seat}
 
@@ -46,6 +47,12 @@ AreWatchesOf ws seats = (who : ℕ) → IsWatchOf (watch_of who ws) (seat_of who
 pub record IsSeatedAnew (who : ℕ) (seats : List Seat) (s : Seat) (new : List Seat) : Type 0 where
   pub own : seat_of who new ≡ Some s
   pub others : (k : ℕ) → (who == k) ≡ false → seat_of k new ≡ seat_of k seats
+
+-- the rows once the watcher that a new seat hands back has ended: the one that was there, or the new one
+abbrev pub rows_after : Result (Option Watch) Watch → List WatchRow → List WatchRow
+rows_after (Ok None) rows = rows
+rows_after (Ok (Some w)) rows = rows_without w.number w.keys rows
+rows_after (Err w) rows = rows_without w.number w.keys rows
 
 -- the rows are those before, of which none has the watcher's number, and then its new row
 pub record AreWithRow (before : List WatchRow) (s : Seat) (rows : List WatchRow) : Type 0 where

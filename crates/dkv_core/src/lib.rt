@@ -20,4 +20,5 @@ mod watches;
 
 pub use machine::Core;
 pub use prepared::{Decided, Prepared};
+pub use seats::{Seat, place_of, sit};
 pub use takes::{NextDue, Taken};

@@ -1,11 +1,11 @@
-// The callers of a run who watch, each with its watcher.
-ghost use Rattle.std.specs.Prelude.{◌≡◌, List, None, IfOk, OnOk, OnErr, position};
+// The callers who watch, each with its watcher.
+ghost use Rattle.std.specs.Prelude.{◌≡◌, List, None, IfOk, IfErr, OnOk, OnErr, option_map, position};
 ghost use Rattle.dkv_base.specs.declared.types.Ask.TheVariants.{Poll, Watch};
 ghost use Rattle.dkv_base.specs.Limits.{watch_limit};
 ghost use Rattle.dkv_hub.specs.Rows.{WatchRow};
 ghost use Rattle.dkv_core.specs.Cores.{IsEffective, SameContent};
 ghost use Rattle.dkv_core.specs.Runs.{IsAnsweredBeside};
-ghost use Rattle.dkv_core.specs.Seats.{is_seat_of, rows_beside, AreWithRow, IsSeatedAnew, HasBegun};
+ghost use Rattle.dkv_core.specs.Seats.{is_seat_of, seat_of, rows_beside, rows_after, AreWithRow, IsSeatedAnew, HasBegun};
 
 use crate::Core;
 use dkv_atomic::watch_limits;
@@ -15,16 +15,46 @@ use std::alloc::Global;
 use std::mem;
 
 /// A caller who watches, with its watcher.
-pub(crate) struct Seat {
-    pub(crate) who: u32,
-    pub(crate) watcher: Watcher,
+pub struct Seat {
+    pub who: u32,
+    pub watcher: Watcher,
 }
 
-// The place of the caller's seat.
-fn place_of(seats: &[Seat], who: u32) -> Option<usize>
+/// The place of the caller's seat. Takes no memory.
+pub fn place_of(seats: &[Seat], who: u32) -> Option<usize>
     ensures { result ≡ position (is_seat_of who) seats.now }
 {
     seats.iter().position(|seat| seat.who == who)
+}
+
+/// Gives the caller this seat, and hands back the watcher of the one that it has, if it has one. Where memory is wanting, the
+/// seats are as they were, and the new watcher comes back. A watcher that comes back is to be ended. Takes memory for a
+/// caller's first seat.
+pub fn sit(seats: &mut Vec<Seat>, seat: Seat) -> Result<Option<Watcher>, Watcher>
+    ensures anew { OnOk result
+        (IsSeatedAnew seat.who seats.old.items seat seats.new.items) }
+    ensures replaced { IfOk result (λ gone.
+        gone ≡ option_map (λ s. s.watcher) (seat_of seat.who seats.old.items)) }
+    ensures returned { IfErr result (λ watcher. watcher ≡ seat.watcher) }
+    ensures refused { OnErr result (seats.new.items ≡ seats.old.items) }
+    // Once what came back has ended, the rows beside the seats are those before the new watch.
+    ensures rows { (before rows : List WatchRow) → AreWithRow before seat rows
+        → rows_beside seats.new.items (rows_after result rows)
+        ≡ rows_beside seats.old.items before }
+{
+    match place_of(seats.as_slice(), seat.who) {
+        Some(place) => {
+            let Seat { who: _, watcher } = mem::replace(&mut seats[place], seat);
+            Ok(Some(watcher))
+        }
+        None => match seats.push(seat) {
+            Ok(()) => Ok(None),
+            Err(failed) => {
+                let Seat { who: _, watcher } = failed.value;
+                Err(watcher)
+            }
+        },
+    }
 }
 
 impl Core {
@@ -115,25 +145,21 @@ impl Core {
         ensures watches { (before : List WatchRow) → AreWithRow before seat self.old.watches
             → rows_beside seats.new.items self.new.watches ≡ rows_beside seats.old.items before }
     {
-        match place_of(seats.as_slice(), seat.who) {
-            Some(place) => {
-                let Seat { who: _, watcher } = mem::replace(&mut seats[place], seat);
+        match sit(seats, seat) {
+            Ok(None) => Ok(()),
+            Ok(Some(watcher)) => {
                 self.unwatch(watcher);
                 Ok(())
             }
-            None => match seats.push(seat) {
-                Ok(()) => Ok(()),
-                Err(failed) => {
-                    let Seat { who: _, watcher } = failed.value;
-                    self.unwatch(watcher);
-                    Err(NoMemory)
-                }
-            },
+            Err(watcher) => {
+                self.unwatch(watcher);
+                Err(NoMemory)
+            }
         }
     }
 
-    // Ends the watches of all seats.
-    pub(crate) fn leave_all(&mut self, seats: Vec<Seat>)
+    /// Ends the watches of all seats. Takes no memory.
+    pub fn leave_all(&mut self, seats: Vec<Seat>)
         ensures { self.new ≡ record self.old {
           watches = rows_beside seats.items self.old.watches;
         } }

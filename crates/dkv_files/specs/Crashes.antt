@@ -2,9 +2,9 @@
 --     StandsFor, Doubtful      each image of the pair recovers to a state, or to it and one commit
 --     ClearLeaves, FillLeaves, GateLeaves, WholeLeaves      an image in a clear, a fill, an opening of the gate, and in all of them
 --     WhereBothTold      where both disks tell their files
---     CommitMoves, CheckpointMoves, CreateLeaves, RunLeaves      a pair's images in a commit, a checkpoint, a create, a run
+--     CommitMoves, CheckpointMoves, CreateLeaves      a pair's images in a commit, a checkpoint, a create
 --     read      is what two files recover to, as recovered with its reading of writes
-use Rattle.std.specs.Prelude.{ℕ, ◌≡◌, ◌⊎◌, ◌^◌, ◌<◌, ◌≤◌, false, IsTrue, Contains, List, [], ◌∷◌, length, take, Option, Some, None}
+use Rattle.std.specs.Prelude.{ℕ, ◌≡◌, ◌⊎◌, ◌^◌, ◌<◌, ◌≤◌, false, IsTrue, List, [], ◌∷◌, length, Option, Some, None}
 use Rattle.std.specs.Option.{option_map_or}
 use Rattle.dkv_base.specs.declared.types.Commit.{Commit}
 use Rattle.dkv_base.specs.State.{State, empty_state}
@@ -123,17 +123,6 @@ IsCheckpointed read a_images b_images s who = EachPair a_images b_images (λ a b
 -- in a create: images of the start, no database, or the empty one
 abbrev pub CreateLeaves : (List ℕ → Type 0) → (List ℕ → Type 0) → (List ℕ → List ℕ → Recovery) → Identity → List ℕ → List ℕ → Type 0
 CreateLeaves a_start b_start read who a b = PairImages a_start b_start a b ⊎ (read a b ≡ no_database) ⊎ IsState (read a b) empty_state who
-
--- the state after the first k commits
-abbrev pub state_at : State → List Commit → ℕ → State
-state_at base cs k = after base (take k cs)
-
--- In a run: images of the start; the state after the first k of its commits; or that and one commit that was in doubt there. A doubt is told by k and its commit.
-abbrev pub RunLeaves : (List ℕ → Type 0) → (List ℕ → Type 0) → (List ℕ → List ℕ → Recovery) → Identity → State → List Commit → List (ℕ × Commit) → List ℕ → List ℕ → Type 0
-RunLeaves a_start b_start read who base cs doubts a b =
-    PairImages a_start b_start a b
-    ⊎ ((k : ℕ) × (k ≤ length cs) × IsState (read a b) (state_at base cs k) who)
-    ⊎ ((k : ℕ) × (c : Commit) × (k ≤ length cs) × Contains doubts (k, c) × IsState (read a b) (and_then (state_at base cs k) c) who)
 
 -- each image of the pair at each moment of a call is one that its start might have left
 abbrev pub WritesNothing : {D : Type 0} → (D → List ℕ → Type 0) → (D → ℕ) → (D → ℕ → List ℕ → Type 0) → D → D → D → D → Type 0

@@ -107,8 +107,10 @@ impl Watcher {
         table: &T,
         at: u64,
     ) -> Result<Option<Frame>, NoMemory>
-        ensures value { IfOk result (IsFrame (T.content table.now) at self.now.keys self.now.shown) }
-        ensures none { IfOk result (IsToldStill (T.content table.now) at self.now.keys self.now.shown) }
+        ensures value { IfOk result
+            (IsFrame (T.content table.now) at self.now.keys self.now.shown) }
+        ensures none { IfOk result
+            (IsToldStill (T.content table.now) at self.now.keys self.now.shown) }
     {
         let keys = self.keys();
         let last = match self.shown() {

@@ -1,6 +1,6 @@
 -- What a commit and a take came to is granted.
-use Rattle.std.proofs.Common.{◌≡◌, refl, sym, ap, subst, ◌∙◌, ℕ, ◌+◌, ◌≤◌, Bool, true, false, cond, List, [], ◌∷◌, length, Option, Some, None, Result, Ok, Err, inl, inr, arith}
-use Rattle.std.specs.Prelude.{MatchResult, IfOk, IfErr, OnErr, unwrap_or, option_map}
+use Rattle.std.proofs.Common.{◌≡◌, ◌⊎◌, refl, sym, ap, subst, ◌∙◌, ℕ, ◌+◌, ◌≤◌, Bool, true, false, cond, List, [], ◌∷◌, Option, Some, None, Result, Ok, Err, inl, inr, arith}
+use Rattle.std.specs.Prelude.{MatchResult, IfOk, IfErr, OnErr, unwrap_or, option_map, max}
 use Rattle.dkv_base.specs.declared.run.NoMemory.{NoMemory}
 use Rattle.dkv_base.specs.declared.types.Answer.{Answer}
 use Rattle.dkv_base.specs.declared.types.Answer.TheVariants as answer
@@ -12,9 +12,10 @@ use Rattle.dkv_base.specs.declared.types.Message.{Message}
 use Rattle.dkv_base.specs.Limits.{first_some}
 use Rattle.dkv_base.specs.Messages.{next}
 use Rattle.dkv_base.specs.State.{State}
-use Rattle.dkv_base.specs.Replies.{said, stopped, full}
-use Rattle.dkv_base.specs.Steps.{Situation, effective, take_reply, lease_reply, next_moment}
-use Rattle.dkv_base.specs.Trails.{first_stop, commits, weight}
+use Rattle.dkv_base.specs.Replies.{Reply, said, stopped, full}
+use Rattle.dkv_base.specs.Moments.{capped_moment}
+use Rattle.dkv_base.specs.Steps.{Situation, effective, reply_to, is_commit, take_reply, lease_reply, next_moment}
+use Rattle.dkv_base.specs.Trails.{first_stop, weight}
 use Rattle.dkv_core.specs.Decisions.{commit_of}
 use Rattle.dkv_core.specs.declared.takes.Taken.{Taken}
 use Rattle.dkv_core.specs.declared.takes.Taken.TheVariants as taken
@@ -23,15 +24,16 @@ use Rattle.dkv_store.specs.declared.answers.Done.{Done}
 use Rattle.dkv_store.specs.declared.answers.Done.TheVariants as done
 use Rattle.dkv_store.specs.declared.answers.Refusal.{Refusal}
 use Rattle.dkv_store.specs.declared.answers.Refusal.TheVariants as refusal
-use Rattle.dkv_store.specs.Stores.{Contents, IsDone, IsRefused, IsTake, IsNotTaken, SameDisks, effective_at}
+use Rattle.dkv_store.specs.Stores.{Contents, IsDone, IsRefused, IsTake, IsNotTaken, IsWithinRise, SameDisks, effective_at}
 use Rattle.dkv_store.specs.Situations as situations
 use Rattle.dkv_store.specs.Situations.{StandsFor, AnswersCall, AnswersTake, ask_of, answer_of}
-use Rattle.dkv_store.specs.Terms.{Leads, left_in_doubt}
+use Rattle.dkv_store.specs.Attempts.{Attempt, left, attempted}
+use Rattle.dkv_store.specs.Terms.{Leads}
 use Rattle.dkv_pipe.specs.declared.reply_status.ReplyStatus.TheVariants as status
 use Rattle.dkv_pipe.specs.Wishes.{asks}
 use Rattle.dkv_pipe.specs.ReplyFrames.{reply_bytes, bytes_of_reply, answer_bytes}
 use Rattle.dkv_pipe.specs.Courses.{situation_of}
-use Rattle.dkv_pipe.specs.Doubts.{asked_commit}
+use Rattle.dkv_pipe.specs.Attempts.{tried, ask_attempts}
 use Rattle.dkv_pipe.specs.Told.{is_write, done_told, Tells, TellsTake, IsUnstopped, IsUnstoppedTake, IsFaultlessTake}
 use Rattle.dkv_pipe.specs.Grants.{Grants, IsRefusedFor}
 use Rattle.dkv_pipe.proofs.Grants.{answered_granted}
@@ -45,11 +47,20 @@ told_answer a (done.Fails places) = refl
 told_answer a (done.NotU64 index) = refl
 told_answer a (done.Limit passed) = refl
 
--- the commit that the call asks for
-asked_is : (a : Call) (who t k : ℕ) → asked_commit (ask_of a) who t k ≡ (k, commit_of who t a) ∷ []
-asked_is (call.Write w) who t k = refl
-asked_is (call.Ack id) who t k = refl
-asked_is (call.Fail id) who t k = refl
+-- what the call tries
+call_tries : (s : Situation) (a : Call) (who t : ℕ) (mark : Bool) → ask_attempts s (ask_of a) who t mark ≡ tried mark (is_commit (reply_to s who t (ask_of a))) (commit_of who t a)
+call_tries s (call.Write w) who t mark = refl
+call_tries s (call.Ack id) who t mark = refl
+call_tries s (call.Fail id) who t mark = refl
+
+-- where it is answered so
+done_tries : (a : Call) (d : Done) (c : Commit) → tried false (is_commit (said (answer_of a d))) c ≡ attempted (Ok d) c
+done_tries (call.Write w) (done.Committed n) c = refl
+done_tries (call.Ack id) (done.Committed n) c = refl
+done_tries (call.Fail id) (done.Committed n) c = refl
+done_tries a (done.Fails places) c = refl
+done_tries a (done.NotU64 index) c = refl
+done_tries a (done.Limit passed) c = refl
 
 -- at most one commit more
 number_done : {D : Type 0} (old new : Contents D) (who t : ℕ) (a : Call) (came : Result Done Refusal) → MatchResult came (λ d. IsDone old who t a d new) (λ e. IsRefused old who t a e new)
@@ -110,43 +121,65 @@ module _ {D : Type 0} (seen : D → Option (List ℕ)) (images : D → List ℕ 
   abbrev t : ℕ
   t = effective_at old at
 
-  abbrev k : ℕ
-  k = length (commits old.trail)
-
   -- ---- commits
 
-  module _ (a : Call) (later : faults old.a ≤ faults new.a) (other : new.b ≡ old.b) where
-    fault_granted : (out : List ℕ) → AnswersCall old who at a (Err refusal.DiskFault) new → Leads seen images moment since ((k, commit_of who t a) ∷ []) old new → Rose (faults old.a) (faults new.a)
+  module _ (a : Call) (later : (faults old.a ≤ faults new.a) × (faults old.b ≤ faults new.b)) where
+    abbrev c : Commit
+    c = commit_of who t a
+
+    -- what the call tries in a situation of the store
+    tries : (s : Situation) → StandsFor s old → (mark : Bool) → ask_attempts s (ask_of a) who (effective s at) mark ≡ tried mark (is_commit (reply_to s who (effective s at) (ask_of a))) c
+    tries s stands mark =
+        call_tries s a who (effective s at) mark
+        ∙ ap (λ (u : ℕ). tried mark (is_commit (reply_to s who (effective s at) (ask_of a))) (commit_of who u a)) (ap (λ (g : ℕ). max (capped_moment at) g) stands.greatest)
+
+    -- the same where it has this reply
+    tries_as : (s : Situation) → StandsFor s old → (r : Reply) → reply_to s who (effective s at) (ask_of a) ≡ r → ask_attempts s (ask_of a) who (effective s at) false ≡ tried false (is_commit r) c
+    tries_as s stands r is = tries s stands false ∙ ap (λ (q : Reply). tried false (is_commit q) c) is
+
+    leads_as : (s : Situation) (tries_here as_told : List Attempt) → tries_here ≡ as_told → Leads seen images moment since as_told old new → Leads seen images moment since tries_here old new
+    leads_as s tries_here as_told is leads = subst (λ (l : List Attempt). Leads seen images moment since l old new) (sym is) leads
+
+    abbrev pub RoseOne : Type 0
+    RoseOne = Rose (faults old.a) (faults new.a) ⊎ Rose (faults old.b) (faults new.b)
+
+    one_risen : RoseOne → IsWithinRise 1 (faults old.a) (faults new.a) (faults old.b) (faults new.b)
+    one_risen (inl rose) = λ low_a low_b. omega (arith, rose, low_a, later.1)
+    one_risen (inr rose) = λ low_a low_b. omega (arith, rose, low_b, later.0)
+
+    fault_granted : (out : List ℕ) → AnswersCall old who at a (Err refusal.DiskFault) new → Leads seen images moment since (left c ∷ []) old new → RoseOne
         → new.core.state.number ≤ old.core.state.number + 1 → out ≡ reply_bytes status.DiskFault [] → Grants seen images faults moment since old (asks (ask_of a)) who at out new
     fault_granted out is leads rose number told = record {
       mark = true;
       steps = λ s stands. let here = is s stands in (ap bytes_of_reply here.0 ∙ sym told, here.1);
       marked = told;
       reaches = record {
-        marked = λ low_a low_b. let same = ap faults other in omega (arith, rose, low_a, same);
-        later_a = later;
-        later_b = let same = ap faults other in omega (arith, same);
+        marked = one_risen rose;
+        later_a = later.0;
+        later_b = later.1;
         number = number;
       };
-      leads = subst (λ (l : List (ℕ × Commit)). Leads seen images moment since l old new) (sym (asked_is a who t k)) leads;
+      leads = λ s stands. leads_as s (ask_attempts s (ask_of a) who (effective s at) true) (left c ∷ []) (tries s stands true) leads;
     }
 
     pub call_granted : (came : Result Done Refusal) (result : Result (List ℕ) NoMemory) → AnswersCall old who at a came new
         → MatchResult came (λ d. IsDone old who t a d new) (λ e. IsRefused old who t a e new)
-        → Leads seen images moment since (left_in_doubt came k (commit_of who t a)) old new → (came ≡ Err refusal.DiskFault → Rose (faults old.a) (faults new.a))
+        → Leads seen images moment since (attempted came c) old new → (came ≡ Err refusal.DiskFault → RoseOne)
         → Tells (is_write a) came result → IfOk result (λ out. Grants seen images faults moment since old (asks (ask_of a)) who at out new)
     call_granted (Ok d) (Ok out) is done leads cause told =
-        answered_granted seen images faults moment since old new (ask_of a) who at (said (answer_of a d)) out is (told ∙ told_answer a d) leads later (let same = ap faults other in omega (arith, same)) (number_done old new who t a (Ok d) done)
+        answered_granted seen images faults moment since old new (ask_of a) who at (said (answer_of a d)) out is (told ∙ told_answer a d)
+        (λ s stands. leads_as s (ask_attempts s (ask_of a) who (effective s at) false) (attempted (Ok d) c) (tries_as s stands (said (answer_of a d)) (is s stands).0 ∙ done_tries a d c) leads) later.0 later.1 (number_done old new who t a (Ok d) done)
     call_granted (Err refusal.DiskFault) (Ok out) is done leads cause told = fault_granted out is leads (cause refl) (number_done old new who t a (Err refusal.DiskFault) done) told
     call_granted (Err (refusal.Stopped place)) (Ok out) is done leads cause told = absurd told
     call_granted (Err (refusal.Full bytes limit)) (Ok out) is done leads cause told =
-        answered_granted seen images faults moment since old new (ask_of a) who at (full bytes limit) out is told leads later (let same = ap faults other in omega (arith, same)) (number_done old new who t a (Err (refusal.Full bytes limit)) done)
+        answered_granted seen images faults moment since old new (ask_of a) who at (full bytes limit) out is told
+        (λ s stands. leads_as s (ask_attempts s (ask_of a) who (effective s at) false) [] (tries_as s stands (full bytes limit) (is s stands).0) leads) later.0 later.1 (number_done old new who t a (Err (refusal.Full bytes limit)) done)
     call_granted (Err refusal.NoMemory) (Ok out) is done leads cause told = absurd told
     call_granted came (Err none) is done leads cause told = tt
 
     pub call_refused : (came : Result Done Refusal) (result : Result (List ℕ) NoMemory)
         → MatchResult came (λ d. IsDone old who t a d new) (λ e. IsRefused old who t a e new)
-        → Leads seen images moment since (left_in_doubt came k (commit_of who t a)) old new
+        → Leads seen images moment since (attempted came c) old new
         → Tells (is_write a) came result → OnErr result (IsRefusedFor seen images moment since old at new)
     call_refused came (Ok out) is leads told = tt
     call_refused (Ok (done.Fails places)) (Err none) is leads told = record { raised = inr is.1; leads = leads }
@@ -166,7 +199,7 @@ module _ {D : Type 0} (seen : D → Option (List ℕ)) (images : D → List ℕ 
 
   module _ (same : SameDisks old new) (leads : Leads seen images moment since [] old new) where
     given : (r : Answer) (x : Taken) → situations.Answers old who at ask.Take false (said r) new → IsTake old who t x new → Grants seen images faults moment since old (asks ask.Take) who at (answer_bytes r) new
-    given r x is took = answered_granted seen images faults moment since old new ask.Take who at (said r) (answer_bytes r) is refl leads
+    given r x is took = answered_granted seen images faults moment since old new ask.Take who at (said r) (answer_bytes r) is refl (λ s stands. leads)
         (let a = ap faults same.a in omega (arith, a)) (let b = ap faults same.b in omega (arith, b)) (number_taken x took)
 
     pub take_granted : (came : Result Taken Refusal) (result : Result (List ℕ) NoMemory) → AnswersTake old who at came new → IfOk came (λ x. IsTake old who t x new) → IfErr came (λ e. IsNotTaken old who t e new) → TellsTake came result
@@ -179,7 +212,7 @@ module _ {D : Type 0} (seen : D → Option (List ℕ)) (images : D → List ℕ 
     take_granted (Err (refusal.Stopped place)) (Ok out) is took short told = absurd told
     take_granted (Err refusal.NoMemory) (Ok out) is took short told = absurd told
     take_granted (Err (refusal.Full bytes limit)) (Ok out) is took short told =
-        answered_granted seen images faults moment since old new ask.Take who at (full bytes limit) out is told leads
+        answered_granted seen images faults moment since old new ask.Take who at (full bytes limit) out is told (λ s stands. leads)
         (let a = ap faults same.a in omega (arith, a)) (let b = ap faults same.b in omega (arith, b)) (omega (arith, ap (λ (s : State). s.number) short.5.state))
     take_granted (Err e) (Err none) is took short told = tt
 

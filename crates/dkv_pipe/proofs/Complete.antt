@@ -16,9 +16,9 @@ use Rattle.dkv_pipe.specs.declared.sizes.TheConstants.{MAX_PLACE}
 use Rattle.dkv_pipe.specs.Frames.{PipeFrame, Whole, Partial, Refused, front, Begins}
 use Rattle.dkv_pipe.specs.Built.{is_built}
 use Rattle.dkv_pipe.specs.Wishes.{readings}
-use Rattle.dkv_pipe.specs.Pipe.{frame_step, replies_from}
+use Rattle.dkv_pipe.specs.Pipe.{frame_step, after_frames, output_from, replies_from, summary_lines}
 use Rattle.dkv_pipe.specs.Courses.{Course}
-use Rattle.dkv_pipe.specs.Ends.{Streams, NoFrame, HasEndCause, Ran}
+use Rattle.dkv_pipe.specs.Ends.{Streams, NoFrame, HasEndCause, Ran, output}
 use Rattle.dkv_pipe.specs.Whole.{IsWholeInput, Completes}
 use Rattle.dkv_pipe.specs.Laws.{Complete}
 use Rattle.dkv_pipe.proofs.Fronts.{front_more, not_partial, not_refused}
@@ -115,9 +115,23 @@ unmarked_replies from (f ∷ fs) (false ∷ ms) none =
     let first = frame_step readings from f false in
     ap (λ (l : List ℕ). first.0 ++ l) (unmarked_replies first.1 fs ms (omega (arith, none, sum_by-cons (λ mark. cond mark 1 0) false ms)))
 
+-- and so is the situation after them
+unmarked_after : (from : Situation) (fs : List PipeFrame) (ms : List Bool) → count_by (λ mark. mark) ms ≡ 0 → after_frames readings from fs ms ≡ after_frames readings from fs []
+unmarked_after from [] ms none = refl
+unmarked_after from (f ∷ fs) [] none = refl
+unmarked_after from (f ∷ fs) (true ∷ ms) none = absurd (omega (arith, none, sum_by-cons (λ mark. cond mark 1 0) true ms))
+unmarked_after from (f ∷ fs) (false ∷ ms) none =
+    unmarked_after (frame_step readings from f false).1 fs ms (omega (arith, none, sum_by-cons (λ mark. cond mark 1 0) false ms))
+
+-- so what is written is what is written without marks
+unmarked_output : (summary : Bool) (from : Situation) (c : Course) → c.out ≡ replies_from readings from c.frames c.marks → count_by (λ mark. mark) c.marks ≡ 0
+    → output summary from c ≡ output_from readings summary from c.frames []
+unmarked_output true from c replied none = ap (λ (s : Situation). summary_lines (length c.frames) s) (unmarked_after from c.frames c.marks none)
+unmarked_output false from c replied none = replied ∙ unmarked_replies from c.frames c.marks none
+
 -- ---- a run over whole frames
 
-module _ (e : PipeEnd) (from : Situation) (before after : Streams) (c : Course) (ran : Ran e from before after c)
+module _ (summary : Bool) (e : PipeEnd) (from : Situation) (before after : Streams) (c : Course) (ran : Ran summary e from before after c)
     (frames : List PipeFrame) (is : IsWholeInput before.left frames) where
   l : Left is.input ran.read after.left
   l = left_of before.left after.left is.input ran.read is.told ran.taken
@@ -143,29 +157,29 @@ module _ (e : PipeEnd) (from : Situation) (before after : Streams) (c : Course) 
   no_frame_never (inr (inl cut)) = cut_never c.rest b.more cut.part cut.some (at_end cut.last)
   no_frame_never (inr (inr late)) = omega (arith, early, late)
 
-  all_answered : c.rest ≡ [] → IsAtEnd after.left → count_by (λ mark. mark) c.marks ≡ 0 → c.out ≡ replies_from readings from frames []
+  all_answered : c.rest ≡ [] → IsAtEnd after.left → count_by (λ mark. mark) c.marks ≡ 0 → output summary from c ≡ output_from readings summary from frames []
   all_answered none last unmarked =
       let more = nothing_more b.more (subst (λ (bytes : List ℕ). Begins bytes b.more []) none (at_end last)) in
       let all : frames ≡ c.frames = b.is ∙ ap (λ (fs : List PipeFrame). c.frames ++ fs) more ∙ append-nil c.frames in
-      ran.answered.replied ∙ unmarked_replies from c.frames c.marks unmarked ∙ ap (λ (fs : List PipeFrame). replies_from readings from fs []) (sym all)
+      unmarked_output summary from c ran.answered.replied unmarked ∙ ap (λ (fs : List PipeFrame). output_from readings summary from fs []) (sym all)
 
-pub completes : (e : PipeEnd) (from : Situation) (before after : Streams) (c : Course) (R W D : Type 0) → Ran e from before after c → HasEndCause e after.ended R W
-    → (¬ D → count_by (λ mark. mark) c.marks ≡ 0) → Completes e from before after R W D
-completes end.Ok from before after c R W D ran cause unmarked frames is no_read no_write no_disk =
-    subst (λ (out : List ℕ). Appends before.held after.held out) (all_answered end.Ok from before after c ran frames is ran.ends.none ran.ends.last (unmarked no_disk)) ran.written
-completes end.NoMemory from before after c R W D ran cause unmarked frames is no_read no_write no_disk = tt
-completes end.ReadFault from before after c R W D ran cause unmarked frames is no_read no_write no_disk = no_read cause
-completes end.WriteFault from before after c R W D ran cause unmarked frames is no_read no_write no_disk = no_write cause
-completes (end.BadFrame place) from before after c R W D ran cause unmarked frames is no_read no_write no_disk = no_frame_never (end.BadFrame place) from before after c ran frames is ran.ends.1
-completes (end.NotBuilt place) from before after c R W D ran cause unmarked frames is no_read no_write no_disk =
+pub completes : (summary : Bool) (e : PipeEnd) (from : Situation) (before after : Streams) (c : Course) (R W D : Type 0) → Ran summary e from before after c → HasEndCause e after.ended R W
+    → (¬ D → count_by (λ mark. mark) c.marks ≡ 0) → Completes summary e from before after R W D
+completes k end.Ok from before after c R W D ran cause unmarked frames is no_read no_write no_disk =
+    subst (λ (out : List ℕ). Appends before.held after.held out) (all_answered k end.Ok from before after c ran frames is ran.ends.none ran.ends.last (unmarked no_disk)) ran.written
+completes k end.NoMemory from before after c R W D ran cause unmarked frames is no_read no_write no_disk = tt
+completes k end.ReadFault from before after c R W D ran cause unmarked frames is no_read no_write no_disk = no_read cause
+completes k end.WriteFault from before after c R W D ran cause unmarked frames is no_read no_write no_disk = no_write cause
+completes k (end.BadFrame place) from before after c R W D ran cause unmarked frames is no_read no_write no_disk = no_frame_never k (end.BadFrame place) from before after c ran frames is ran.ends.1
+completes k (end.NotBuilt place) from before after c R W D ran cause unmarked frames is no_read no_write no_disk =
     let u = ran.ends.1 in
     let e = end.NotBuilt place in
-    unbuilt_never c.rest (l e from before after c ran frames is).left (b e from before after c ran frames is).more u.frame u.more u.whole u.unbuilt
-    (b e from before after c ran frames is).begins (built e from before after c ran frames is)
+    unbuilt_never c.rest (l k e from before after c ran frames is).left (b k e from before after c ran frames is).more u.frame u.more u.whole u.unbuilt
+    (b k e from before after c ran frames is).begins (built k e from before after c ran frames is)
 
 pub complete : Complete
-complete e from before after c read_old read_new write_old write_new a_old a_new b_old b_new ran cause within =
-    completes e from before after c _ _ _ ran cause (no_marks (count_by (λ mark. mark) c.marks) a_old a_new b_old b_new within)
+complete k e from before after c read_old read_new write_old write_new a_old a_new b_old b_new ran cause within =
+    completes k e from before after c _ _ _ ran cause (no_marks (count_by (λ mark. mark) c.marks) a_old a_new b_old b_new within)
 
 -- a count that rose since later rose since earlier
 pub rose_from : (a b n : ℕ) → a ≤ b → Rose b n → Rose a n

@@ -3,6 +3,8 @@ mod Fronts
 mod RepliedFrames
 mod Halves
 mod Reaching
+pub mod Putting
+mod SummaryLines
 mod Runs
 mod Spelled
 mod Refused

@@ -97,27 +97,27 @@ no_frame_over after at rest (inr (inr late)) = inr late
 frame_unbuilt : (at : ℕ) (rest : List ℕ) → Unbuilt at rest → NoBuilt rest
 frame_unbuilt at rest u f more whole = subst (λ (g : PipeFrame). is_built g.kind ≡ false) (frames_are u.frame f u.more more (sym u.whole ∙ whole)).0 u.unbuilt
 
-told_over : (e : PipeEnd) (after : Streams) (at : ℕ) (rest : List ℕ) → IsTold e → EndsAt e after at rest → IsOver at rest
-told_over end.Ok after at rest told ends = inl (part_unbuilt rest (ap front ends.none ∙ front_nothing))
-told_over end.ReadFault after at rest told ends = inl (part_unbuilt rest ends.part)
-told_over end.WriteFault after at rest told ends = absurd told
-told_over (end.BadFrame place) after at rest told ends = no_frame_over after at rest ends.1
-told_over (end.NotBuilt place) after at rest told ends = inl (frame_unbuilt at rest ends.1)
-told_over end.NoMemory after at rest told ends = absurd told
+told_over : (k : Bool) (e : PipeEnd) (after : Streams) (at : ℕ) (rest : List ℕ) → IsTold e → EndsAt k e after at rest → IsOver at rest
+told_over k end.Ok after at rest told ends = inl (part_unbuilt rest (ap front ends.none ∙ front_nothing))
+told_over k end.ReadFault after at rest told ends = inl (part_unbuilt rest ends.part)
+told_over k end.WriteFault after at rest told ends = absurd told
+told_over k (end.BadFrame place) after at rest told ends = no_frame_over after at rest ends.1
+told_over k (end.NotBuilt place) after at rest told ends = inl (frame_unbuilt at rest ends.1)
+told_over k end.NoMemory after at rest told ends = absurd told
 
 -- the place is where the frames end
 place_is : (from : Situation) (read : List ℕ) (c : Course) (r : IsCourse from read c) → c.at ≡ 0 + span c.frames
 place_is from read c r = omega (arith, r.place, begins_length read c.frames c.rest r.whole)
 
-run_over : (e : PipeEnd) (from : Situation) (before after : Streams) (c : Course) (r : Ran e from before after c) → IsTold e → IsOver (0 + span c.frames) c.rest
-run_over e from before after c r told =
-    subst (λ (n : ℕ). IsOver n c.rest) (place_is from r.read c r.answered) (told_over e after c.at c.rest told r.ends)
+run_over : (k : Bool) (e : PipeEnd) (from : Situation) (before after : Streams) (c : Course) (r : Ran k e from before after c) → IsTold e → IsOver (0 + span c.frames) c.rest
+run_over k e from before after c r told =
+    subst (λ (n : ℕ). IsOver n c.rest) (place_is from r.read c r.answered) (told_over k e after c.at c.rest told r.ends)
 
 pub one_course : OneCourse
-one_course d e from b c u v x y r s first last same marks =
+one_course k l d e from b c u v x y r s first last same marks =
     let p = r.answered in
     let q = s.answered in
     let one = one_way 0 s.read x.frames y.frames x.rest y.rest
-    (subst (λ (bytes : List ℕ). Begins bytes x.frames x.rest) same p.whole) p.built p.early (run_over d from b c x r first)
-    q.whole q.built q.early (run_over e from u v y s last) in
+    (subst (λ (bytes : List ℕ). Begins bytes x.frames x.rest) same p.whole) p.built p.early (run_over k d from b c x r first)
+    q.whole q.built q.early (run_over l e from u v y s last) in
     courses_are from r.read s.read x y p q same one.0 marks one.1

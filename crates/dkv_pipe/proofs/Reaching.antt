@@ -2,7 +2,7 @@
 use Rattle.std.proofs.Common.{◌≡◌, ℕ, ◌+◌, ◌≤◌, Bool, List, [], ◌∷◌, ◌++◌, Option, sym, ap, subst, arith, append_assoc}
 use Rattle.std.specs.Prelude.{count_by}
 use Rattle.std.proofs.lemmas.List.{append-nil}
-use Rattle.dkv_base.specs.declared.types.Commit.{Commit}
+use Rattle.dkv_store.specs.Attempts.{Attempt}
 use Rattle.dkv_store.specs.Stores.{Contents, IsWithinRise}
 use Rattle.dkv_store.specs.Terms.{GoesOn, Leads}
 use Rattle.dkv_store.proofs.Trailing.{count_push}
@@ -39,10 +39,10 @@ module _ {D : Type 0} (faults : D → ℕ) where
 
 module _ {D : Type 0} (seen : D → Option (List ℕ)) (images : D → List ℕ → Type 0) (moment : D → ℕ) (since : D → ℕ → List ℕ → Type 0) where
   pub leads_none : (s : Contents D) → Leads seen images moment since [] s s
-  leads_none s start doubts goes = subst (λ (l : List (ℕ × Commit)). GoesOn seen images moment since l start s) (sym (append-nil doubts)) goes
+  leads_none s start attempts goes = subst (λ (l : List Attempt). GoesOn seen images moment since l start s) (sym (append-nil attempts)) goes
 
-  pub leads_then : (old mid new : Contents D) (xs ys : List (ℕ × Commit)) → Leads seen images moment since xs old mid → Leads seen images moment since ys mid new
+  pub leads_then : (old mid new : Contents D) (xs ys : List Attempt) → Leads seen images moment since xs old mid → Leads seen images moment since ys mid new
       → Leads seen images moment since (xs ++ ys) old new
-  leads_then old mid new xs ys first second start doubts goes =
-      subst (λ (l : List (ℕ × Commit)). GoesOn seen images moment since l start new) (append_assoc doubts xs ys)
-      (second start (doubts ++ xs) (first start doubts goes))
+  leads_then old mid new xs ys first second start attempts goes =
+      subst (λ (l : List Attempt). GoesOn seen images moment since l start new) (append_assoc attempts xs ys)
+      (second start (attempts ++ xs) (first start attempts goes))

@@ -3,7 +3,6 @@ use Rattle.std.proofs.Common.{◌≡◌, ◌+◌, ◌<◌, Bool, List, [], ◌�
 use Rattle.std.proofs.lemmas.List.{append-nil}
 use Rattle.std.specs.Prelude.{IsTrue, ℕ}
 use Rattle.std.specs.List.{AllByRecursion}
-use Rattle.dkv_base.specs.declared.types.Commit.{Commit}
 use Rattle.dkv_base.specs.Steps.{Situation}
 use Rattle.dkv_pipe.specs.declared.sizes.TheConstants.{BODY_PLACE, MAX_PLACE}
 use Rattle.dkv_pipe.specs.Frames.{PipeFrame, Whole, front, Begins, BeginEarly}
@@ -11,7 +10,8 @@ use Rattle.dkv_pipe.specs.Wishes.{readings}
 use Rattle.dkv_pipe.specs.Pipe.{frame_step, replies_from, after_frames}
 use Rattle.dkv_pipe.specs.Built.{is_built}
 use Rattle.dkv_pipe.specs.Courses.{Course, IsCourse, IsMarked, AreMarked}
-use Rattle.dkv_pipe.specs.Doubts.{frame_doubt, doubts_of}
+use Rattle.dkv_store.specs.Attempts.{Attempt}
+use Rattle.dkv_pipe.specs.Attempts.{frame_attempts, attempts_of}
 use Rattle.dkv_pipe.proofs.Fronts.{front_more, whole_length}
 
 pub begins_more : (bytes more : List ℕ) (fs : List PipeFrame) (rest : List ℕ) → Begins bytes fs rest → Begins (bytes ++ more) fs (rest ++ more)
@@ -41,15 +41,15 @@ after_one from [] (k ∷ ks) f m many = absurd (omega (arith, many))
 after_one from (g ∷ fs) [] f m many = absurd (omega (arith, many))
 after_one from (g ∷ fs) (k ∷ ks) f m many = after_one (frame_step readings from g k).1 fs ks f m (omega (arith, many))
 
-pub doubts_one : (from : Situation) (fs : List PipeFrame) (ms : List Bool) (f : PipeFrame) (m : Bool) → length ms ≡ length fs
-    → doubts_of from (fs ++ f ∷ []) (ms ++ m ∷ []) ≡ doubts_of from fs ms ++ frame_doubt (after_frames readings from fs ms) f m
-doubts_one from [] [] f m many = append-nil (frame_doubt from f m)
-doubts_one from [] (k ∷ ks) f m many = absurd (omega (arith, many))
-doubts_one from (g ∷ fs) [] f m many = absurd (omega (arith, many))
-doubts_one from (g ∷ fs) (k ∷ ks) f m many =
+pub attempts_one : (from : Situation) (fs : List PipeFrame) (ms : List Bool) (f : PipeFrame) (m : Bool) → length ms ≡ length fs
+    → attempts_of from (fs ++ f ∷ []) (ms ++ m ∷ []) ≡ attempts_of from fs ms ++ frame_attempts (after_frames readings from fs ms) f m
+attempts_one from [] [] f m many = append-nil (frame_attempts from f m)
+attempts_one from [] (k ∷ ks) f m many = absurd (omega (arith, many))
+attempts_one from (g ∷ fs) [] f m many = absurd (omega (arith, many))
+attempts_one from (g ∷ fs) (k ∷ ks) f m many =
     let next = (frame_step readings from g k).1 in
-    ap (λ (l : List (ℕ × Commit)). frame_doubt from g k ++ l) (doubts_one next fs ks f m (omega (arith, many)))
-    ∙ sym (append_assoc (frame_doubt from g k) (doubts_of next fs ks) (frame_doubt (after_frames readings next fs ks) f m))
+    ap (λ (l : List Attempt). frame_attempts from g k ++ l) (attempts_one next fs ks f m (omega (arith, many)))
+    ∙ sym (append_assoc (frame_attempts from g k) (attempts_of next fs ks) (frame_attempts (after_frames readings next fs ks) f m))
 
 marked_one : (from : Situation) (fs : List PipeFrame) (ms : List Bool) (f : PipeFrame) (m : Bool) → length ms ≡ length fs → AreMarked from fs ms
     → IsMarked m (frame_step readings (after_frames readings from fs ms) f m).0 → AreMarked from (fs ++ f ∷ []) (ms ++ m ∷ [])

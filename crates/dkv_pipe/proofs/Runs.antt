@@ -1,16 +1,14 @@
 -- A run goes on, or ends.
 use Rattle.std.proofs.Common.{◌≡◌, ℕ, ◌+◌, ◌<◌, Bool, List, [], ◌∷◌, ◌++◌, length, drop, Option, Some, None, refl, sym, ap, subst, ◌∙◌, arith, append_assoc, length-append, inl, inr}
-use Rattle.std.specs.Prelude.{IsTrue, false, max}
-use Rattle.std.specs.Io.KnownBytes.{Appends, Consumes, IsAtEnd}
+use Rattle.std.specs.Prelude.{IsTrue, false, not, max}
+use Rattle.std.specs.Io.KnownBytes.{Consumes, IsAtEnd}
 use Rattle.std.proofs.lemmas.List.{length-drop, append-nil}
-use Rattle.dkv_io.specs.Streams.{AppendsFront}
-use Rattle.dkv_base.specs.declared.types.Commit.{Commit}
 use Rattle.dkv_base.specs.declared.types.MsgId.{MsgId}
 use Rattle.dkv_base.specs.Messages.{is_out}
 use Rattle.dkv_base.specs.Moments.{capped_moment}
 use Rattle.dkv_base.specs.State.{State}
 use Rattle.dkv_base.specs.Steps.{Situation, raised}
-use Rattle.dkv_base.specs.Trails.{commits}
+use Rattle.dkv_store.specs.Attempts.{Attempt}
 use Rattle.dkv_store.specs.Stores.{Contents, IsRaised, IsRaisedTo, effective_at}
 use Rattle.dkv_store.specs.Situations.{StandsFor}
 use Rattle.dkv_store.specs.Terms.{Leads}
@@ -20,17 +18,17 @@ use Rattle.dkv_pipe.specs.declared.pipe.PipeEnd.TheVariants as end
 use Rattle.dkv_pipe.specs.declared.sizes.TheConstants.{MAX_PLACE}
 use Rattle.dkv_pipe.specs.Frames.{PipeFrame, Partial, Refused, Whole, front}
 use Rattle.dkv_pipe.specs.Wishes.{readings, wish}
-use Rattle.dkv_pipe.specs.Pipe.{frame_step, after_frames}
+use Rattle.dkv_pipe.specs.Pipe.{frame_step, after_frames, summary_lines}
 use Rattle.dkv_pipe.specs.Built.{is_built}
 use Rattle.dkv_pipe.specs.Courses.{Course, IsCourse, situation_of}
-use Rattle.dkv_pipe.specs.Doubts.{doubts_of, frame_doubt, wish_doubt}
+use Rattle.dkv_pipe.specs.Attempts.{attempts_of, frame_attempts}
 use Rattle.dkv_pipe.specs.Grants.{Answers, IsRefusedFor}
 use Rattle.dkv_pipe.specs.Stores.{Reaches, EndsIn, RunsTo}
-use Rattle.dkv_pipe.specs.Ends.{Streams, NoFrame, EndsAt, Writes}
-use Rattle.dkv_pipe.specs.Running.{Running, IsWholeOf, frame_with, body_at}
-use Rattle.dkv_pipe.proofs.RepliedFrames.{course_more, course_one, course_with, after_one, doubts_one}
+use Rattle.dkv_pipe.specs.Ends.{Streams, NoFrame, EndsAt, Puts, PutsFront, Writes}
+use Rattle.dkv_pipe.specs.Running.{Running, IsWholeOf, frame_with, body_at, store_lines}
+use Rattle.dkv_pipe.proofs.RepliedFrames.{course_more, course_one, course_with, after_one, attempts_one}
 use Rattle.dkv_pipe.proofs.Reaching.{reaches_none, reaches_one, reaches_same, leads_none, leads_then}
-use Rattle.dkv_io.proofs.Written.{appends_nothing, appends_then}
+use Rattle.dkv_pipe.proofs.Putting.{puts_nothing, puts_then, lines_stand, all_put, lines_unwritten, reply_unwritten, at_reply, at_end}
 
 -- ---- what was read
 
@@ -65,16 +63,11 @@ same_stands s old new stands is = record {
   limited = stands.limited ∙ sym is.limit;
 }
 
--- the doubt of a frame in a situation is the one in its store
-doubt_is : {D : Type 0} (s : Situation) (c : Contents D) (f : PipeFrame) (mark : Bool) → StandsFor s c
-    → frame_doubt s f mark ≡ wish_doubt mark (wish readings f.kind f.body) f.caller (effective_at c f.moment) (length (commits c.trail))
-doubt_is s c f mark stands = λ i. wish_doubt mark (wish readings f.kind f.body) f.caller (max (capped_moment f.moment) (stands.greatest i)) (length (commits (stands.trail i)))
-
-module _ {D : Type 0} (seen : D → Option (List ℕ)) (images : D → List ℕ → Type 0) (faults moment : D → ℕ) (since : D → ℕ → List ℕ → Type 0) where
+module _ {D : Type 0} (seen : D → Option (List ℕ)) (images : D → List ℕ → Type 0) (faults moment : D → ℕ) (since : D → ℕ → List ℕ → Type 0) (summary : Bool) where
   -- ---- steps
 
   -- at the start nothing is read, and the buffer is empty
-  pub at_start : (s : Contents D) (before : Streams) → Running seen images faults moment since s before before s [] 0
+  pub at_start : (s : Contents D) (before : Streams) → Running seen images faults moment since summary s before before s [] 0 0
   at_start s before = record {
     read = [];
     frames = [];
@@ -82,13 +75,14 @@ module _ {D : Type 0} (seen : D → Option (List ℕ)) (images : D → List ℕ 
     out = [];
     taken = consumes_nothing before.left;
     answered = record { whole = refl; built = tt; early = tt; place = refl; replied = refl; many = refl; marked = tt };
-    written = appends_nothing before.held;
+    written = puts_nothing (not summary) before.held;
+    counted = refl;
     stands = record { state = refl; out = λ id. refl; greatest = refl; trail = refl; limited = refl };
     reaches = reaches_none faults s;
     leads = leads_none seen images moment since s;
   }
 
-  module _ (old : Contents D) (before now : Streams) (s : Contents D) (buffer : List ℕ) (at : ℕ) (is : Running seen images faults moment since old before now s buffer at) where
+  module _ (old : Contents D) (before now : Streams) (s : Contents D) (buffer : List ℕ) (at count : ℕ) (is : Running seen images faults moment since summary old before now s buffer at count) where
     abbrev from : Situation
     from = situation_of old
 
@@ -99,7 +93,7 @@ module _ {D : Type 0} (seen : D → Option (List ℕ)) (images : D → List ℕ 
     c = record { frames = is.frames; marks = is.marks; at = at; out = is.out; rest = buffer }
 
     -- a piece is read
-    pub more_on : (next : Streams) (piece : List ℕ) → Consumes now.left next.left piece → now.held ≡ next.held → Running seen images faults moment since old before next s (buffer ++ piece) at
+    pub more_on : (next : Streams) (piece : List ℕ) → Consumes now.left next.left piece → now.held ≡ next.held → Running seen images faults moment since summary old before next s (buffer ++ piece) at count
     more_on next piece takes keeps = record {
       read = is.read ++ piece;
       frames = is.frames;
@@ -107,7 +101,8 @@ module _ {D : Type 0} (seen : D → Option (List ℕ)) (images : D → List ℕ 
       out = is.out;
       taken = consumes_then before.left now.left next.left is.read piece is.taken takes;
       answered = course_more from is.read piece c is.answered;
-      written = subst (λ (held : Option (List ℕ)). Appends before.held held is.out) keeps is.written;
+      written = subst (λ (held : Option (List ℕ)). Puts (not summary) before.held held is.out) keeps is.written;
+      counted = is.counted;
       stands = is.stands;
       reaches = is.reaches;
       leads = is.leads;
@@ -138,13 +133,12 @@ module _ {D : Type 0} (seen : D → Option (List ℕ)) (images : D → List ℕ 
       reaches_is : Reaches faults (length longer.frames) longer.marks old new
       reaches_is = subst (λ (n : ℕ). Reaches faults n longer.marks old new) (sym (length-append is.frames (f ∷ []))) (reaches_one faults (length is.frames) is.marks m old s new is.reaches e.1.reaches)
 
-      leads_is : Leads seen images moment since (doubts_of from longer.frames longer.marks) old new
+      leads_is : Leads seen images moment since (attempts_of from longer.frames longer.marks) old new
       leads_is =
-          subst (λ (l : List (ℕ × Commit)). Leads seen images moment since l old new) (sym (doubts_one from is.frames is.marks f m is.answered.many))
-          (leads_then seen images moment since old s new (doubts_of from is.frames is.marks) (frame_doubt here f m) is.leads
-          (subst (λ (l : List (ℕ × Commit)). Leads seen images moment since l s new) (sym (doubt_is here s f m is.stands)) e.1.leads))
+          subst (λ (l : List Attempt). Leads seen images moment since l old new) (sym (attempts_one from is.frames is.marks f m is.answered.many))
+          (leads_then seen images moment since old s new (attempts_of from is.frames is.marks) (frame_attempts here f m) is.leads (e.1.leads here is.stands))
 
-      pub frame_on : (next : Streams) → now.left ≡ next.left → Appends now.held next.held reply → Running seen images faults moment since old before next new (drop h.len buffer) (at + h.len)
+      pub frame_on : (next : Streams) → now.left ≡ next.left → Puts (not summary) now.held next.held reply → Running seen images faults moment since summary old before next new (drop h.len buffer) (at + h.len) (count + 1)
       frame_on next keeps grows = record {
         read = is.read;
         frames = longer.frames;
@@ -152,21 +146,22 @@ module _ {D : Type 0} (seen : D → Option (List ℕ)) (images : D → List ℕ 
         out = longer.out;
         taken = subst (λ (left : Option (List ℕ)). Consumes before.left left is.read) keeps is.taken;
         answered = course_is;
-        written = appends_then before.held now.held next.held is.out reply is.written grows;
+        written = puts_then (not summary) before.held now.held next.held is.out reply is.written grows;
+        counted = omega (arith, is.counted, length-append is.frames (f ∷ []));
         stands = stands_is;
         reaches = reaches_is;
         leads = leads_is;
       }
 
       -- and the write of its reply fails
-      pub fault_ends : (next : Streams) → now.left ≡ next.left → AppendsFront now.held next.held reply → RunsTo seen images faults moment since end.WriteFault before next old new
+      pub fault_ends : (next : Streams) → now.left ≡ next.left → PutsFront (not summary) now.held next.held reply → RunsTo seen images faults moment since summary end.WriteFault before next old new
       fault_ends next keeps grows = record {
         course = longer;
         ran = record {
           read = is.read;
           taken = subst (λ (left : Option (List ℕ)). Consumes before.left left is.read) keeps is.taken;
           answered = course_is;
-          written = record {
+          written = reply_unwritten summary from is.read before.held now.held next.held longer is.out reply is.written grows (λ all part. record {
             earlier = c;
             frame = f;
             mark = m;
@@ -178,10 +173,10 @@ module _ {D : Type 0} (seen : D → Option (List ℕ)) (images : D → List ℕ 
             marks = refl;
             reply = sym step_is.0;
             out = refl;
-            written = is.written;
-            part = grows;
-          };
-          ends = tt;
+            written = all;
+            part = part;
+          });
+          ends = at_reply summary now.held next.held reply next (at + h.len) (drop h.len buffer) grows;
         };
         ends = stands_is;
         reaches = reaches_is;
@@ -190,21 +185,27 @@ module _ {D : Type 0} (seen : D → Option (List ℕ)) (images : D → List ℕ 
 
     -- ---- ends
 
-    -- all replies are written
-    ended : (e : PipeEnd) (new : Contents D) → Writes e from is.read before.held now.held c → EndsAt e now at buffer → EndsIn e here buffer new
-        → Reaches faults (length is.frames) is.marks old new → Leads seen images moment since (doubts_of from is.frames is.marks) old new
-        → RunsTo seen images faults moment since e before now old new
-    ended e new written ends stands reaches leads = record {
+    -- at an end behind these frames
+    ended : (e : PipeEnd) (next : Streams) (new : Contents D) → now.left ≡ next.left → Writes summary e from is.read before.held next.held c → EndsAt summary e next at buffer → EndsIn e here buffer new
+        → Reaches faults (length is.frames) is.marks old new → Leads seen images moment since (attempts_of from is.frames is.marks) old new
+        → RunsTo seen images faults moment since summary e before next old new
+    ended e next new keeps written ends stands reaches leads = record {
       course = c;
-      ran = record { read = is.read; taken = is.taken; answered = is.answered; written = written; ends = ends };
+      ran = record {
+        read = is.read;
+        taken = subst (λ (left : Option (List ℕ)). Consumes before.left left is.read) keeps is.taken;
+        answered = is.answered;
+        written = written;
+        ends = ends;
+      };
       ends = stands;
       reaches = reaches;
       leads = leads;
     }
 
     -- memory is wanted for a piece
-    pub piece_ends : at < MAX_PLACE → RunsTo seen images faults moment since end.NoMemory before now old s
-    piece_ends early = ended end.NoMemory s is.written early (inl is.stands) is.reaches is.leads
+    pub piece_ends : at < MAX_PLACE → RunsTo seen images faults moment since summary end.NoMemory before now old s
+    piece_ends early = ended end.NoMemory now s refl is.written early (inl is.stands) is.reaches is.leads
 
     raised_ends : (new : Contents D) (f : PipeFrame) (more : List ℕ) → front buffer ≡ Whole f more → IsRaised (effective_at s f.moment) s new → EndsIn end.NoMemory here buffer new
     raised_ends new f more whole (inl same) = inl (same_stands here s new is.stands same)
@@ -220,33 +221,49 @@ module _ {D : Type 0} (seen : D → Option (List ℕ)) (images : D → List ℕ 
     raised_reaches new t (inr same) = reaches_same faults (length is.frames) is.marks old s new is.reaches same.a same.b (ap (λ (x : State). x.number) same.state)
 
     -- memory is wanted for a frame
-    pub memory_ends : (new : Contents D) (h : Head) → at < MAX_PLACE → IsWholeOf h buffer → IsRefusedFor seen images moment since s h.moment new → RunsTo seen images faults moment since end.NoMemory before now old new
+    pub memory_ends : (new : Contents D) (h : Head) → at < MAX_PLACE → IsWholeOf h buffer → IsRefusedFor seen images moment since s h.moment new → RunsTo seen images faults moment since summary end.NoMemory before now old new
     memory_ends new h early w refused =
-        ended end.NoMemory new is.written early (raised_ends new (frame_with h (body_at h.len buffer)) (drop h.len buffer) w.whole refused.raised)
+        ended end.NoMemory now new refl is.written early (raised_ends new (frame_with h (body_at h.len buffer)) (drop h.len buffer) w.whole refused.raised)
         (raised_reaches new (effective_at s h.moment) refused.raised)
-        (subst (λ (l : List (ℕ × Commit)). Leads seen images moment since l old new) (append-nil (doubts_of from is.frames is.marks))
-        (leads_then seen images moment since old s new (doubts_of from is.frames is.marks) [] is.leads refused.leads))
+        (subst (λ (l : List Attempt). Leads seen images moment since l old new) (append-nil (attempts_of from is.frames is.marks))
+        (leads_then seen images moment since old s new (attempts_of from is.frames is.marks) [] is.leads refused.leads))
 
-    pub read_fault_ends : at < MAX_PLACE → front buffer ≡ Partial → RunsTo seen images faults moment since end.ReadFault before now old s
-    read_fault_ends early part = ended end.ReadFault s is.written (record { early = early; part = part }) is.stands is.reaches is.leads
+    pub read_fault_ends : at < MAX_PLACE → front buffer ≡ Partial → RunsTo seen images faults moment since summary end.ReadFault before now old s
+    read_fault_ends early part = ended end.ReadFault now s refl is.written (record { early = early; part = part }) is.stands is.reaches is.leads
 
-    -- the source said End between two frames
-    pub input_ends : at < MAX_PLACE → buffer ≡ [] → IsAtEnd now.left → RunsTo seen images faults moment since end.Ok before now old s
-    input_ends early none last = ended end.Ok s is.written (record { early = early; none = none; last = last }) is.stands is.reaches is.leads
+    -- the lines of the store are those of the frames so far
+    lines_are : store_lines count s ≡ summary_lines (length is.frames) here
+    lines_are = lines_stand here s count (length is.frames) is.stands is.counted
+
+    -- the source said End between two frames, and a summary is written, if one is wanted
+    pub input_ends : (next : Streams) → now.left ≡ next.left → at < MAX_PLACE → buffer ≡ [] → IsAtEnd next.left → Puts summary now.held next.held (store_lines count s)
+        → RunsTo seen images faults moment since summary end.Ok before next old s
+    input_ends next keeps early none last puts =
+        ended end.Ok next s keeps
+        (all_put summary before.held now.held next.held is.out (summary_lines (length is.frames) here) is.written (subst (λ (l : List ℕ). Puts summary now.held next.held l) lines_are puts))
+        (record { early = early; none = none; last = last }) is.stands is.reaches is.leads
+
+    -- or its write fails
+    pub summary_ends : (next : Streams) → now.left ≡ next.left → at < MAX_PLACE → buffer ≡ [] → IsAtEnd next.left → IsTrue next.ended → PutsFront summary now.held next.held (store_lines count s)
+        → RunsTo seen images faults moment since summary end.WriteFault before next old s
+    summary_ends next keeps early none last said puts =
+        ended end.WriteFault next s keeps
+        (lines_unwritten summary from is.read before.held now.held next.held c is.written (subst (λ (l : List ℕ). PutsFront summary now.held next.held l) lines_are puts))
+        (at_end summary next at buffer (record { early = early; none = none; last = last }) said) is.stands is.reaches is.leads
 
     -- no frame begins at the place
-    pub bad_frame_ends : NoFrame now at buffer → RunsTo seen images faults moment since (end.BadFrame at) before now old s
-    bad_frame_ends none = ended (end.BadFrame at) s is.written (refl, none) is.stands is.reaches is.leads
+    pub bad_frame_ends : NoFrame now at buffer → RunsTo seen images faults moment since summary (end.BadFrame at) before now old s
+    bad_frame_ends none = ended (end.BadFrame at) now s refl is.written (refl, none) is.stands is.reaches is.leads
 
     -- the source said End within a frame
-    pub cut_ends : front buffer ≡ Partial → 0 < length buffer → IsAtEnd now.left → IsTrue now.ended → RunsTo seen images faults moment since (end.BadFrame at) before now old s
+    pub cut_ends : front buffer ≡ Partial → 0 < length buffer → IsAtEnd now.left → IsTrue now.ended → RunsTo seen images faults moment since summary (end.BadFrame at) before now old s
     cut_ends part some last said = bad_frame_ends (inr (inl (record { part = part; some = some; last = last; said = said })))
 
     -- the bytes at the front are refused
-    pub refused_ends : front buffer ≡ Refused → RunsTo seen images faults moment since (end.BadFrame at) before now old s
+    pub refused_ends : front buffer ≡ Refused → RunsTo seen images faults moment since summary (end.BadFrame at) before now old s
     refused_ends refused = bad_frame_ends (inl refused)
 
     -- a frame that isn't built
-    pub unbuilt_ends : (h : Head) → at < MAX_PLACE → IsWholeOf h buffer → is_built h.kind ≡ false → RunsTo seen images faults moment since (end.NotBuilt at) before now old s
+    pub unbuilt_ends : (h : Head) → at < MAX_PLACE → IsWholeOf h buffer → is_built h.kind ≡ false → RunsTo seen images faults moment since summary (end.NotBuilt at) before now old s
     unbuilt_ends h early w none =
-        ended (end.NotBuilt at) s is.written (refl, record { frame = frame_with h (body_at h.len buffer); more = drop h.len buffer; early = early; whole = w.whole; unbuilt = none }) is.stands is.reaches is.leads
+        ended (end.NotBuilt at) now s refl is.written (refl, record { frame = frame_with h (body_at h.len buffer); more = drop h.len buffer; early = early; whole = w.whole; unbuilt = none }) is.stands is.reaches is.leads

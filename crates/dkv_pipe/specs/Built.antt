@@ -1,5 +1,5 @@
 -- Which frames are answered yet.
---     is_built k      a read, a write, a take, an acknowledgement or a failure
+--     is_built k      all but a watch, a poll and a checkpoint
 use Rattle.std.specs.Prelude.{Bool, true, false}
 use Rattle.dkv_pipe.specs.declared.frame_kind.FrameKind.{FrameKind}
 use Rattle.dkv_pipe.specs.declared.frame_kind.FrameKind.TheVariants as kind
@@ -14,4 +14,4 @@ is_built kind.Take = true
 is_built kind.Acknowledge = true
 is_built kind.Fail = true
 is_built kind.Checkpoint = false
-is_built kind.Term = false
+is_built kind.Term = true

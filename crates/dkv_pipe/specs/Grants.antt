@@ -2,10 +2,9 @@
 --     Grants .. old w who at out new      the old store grants the wish by the reply `out`, which leads to the new one
 --     Answers .. old f out new      the same of a frame that is built
 --     IsRefusedFor .. old at new      memory was wanted for what was asked at this moment
-use Rattle.std.specs.Prelude.{◌≡◌, ℕ, Bool, List, [], ◌∷◌, IsTrue, length}
+use Rattle.std.specs.Prelude.{◌≡◌, ℕ, Bool, List, [], ◌∷◌, IsTrue}
 use Rattle.std.specs.declared.option.Option.{Option}
 use Rattle.dkv_base.specs.Steps.{Situation}
-use Rattle.dkv_base.specs.Trails.{commits}
 use Rattle.dkv_store.specs.Stores.{Contents, IsRaised, effective_at}
 use Rattle.dkv_store.specs.Situations.{StandsFor}
 use Rattle.dkv_store.specs.Terms.{Leads}
@@ -14,7 +13,7 @@ use Rattle.dkv_pipe.specs.Wishes.{Wish, readings, wish}
 use Rattle.dkv_pipe.specs.Pipe.{grant}
 use Rattle.dkv_pipe.specs.Built.{is_built}
 use Rattle.dkv_pipe.specs.Courses.{IsMarked}
-use Rattle.dkv_pipe.specs.Doubts.{wish_doubt}
+use Rattle.dkv_pipe.specs.Attempts.{wish_attempts}
 use Rattle.dkv_pipe.specs.Stores.{Reaches}
 
 -- In each situation of the old store the wish is granted so, which leads to a situation of the new one. A mark stands where the disk failed.
@@ -24,7 +23,7 @@ pub record Grants {D : Type 0} (seen : D → Option (List ℕ)) (images : D → 
   pub steps : (s : Situation) → StandsFor s old → ((grant w who at mark s).0 ≡ out) × StandsFor (grant w who at mark s).1 new
   pub marked : IsMarked mark out
   pub reaches : Reaches faults 1 (mark ∷ []) old new
-  pub leads : Leads seen images moment since (wish_doubt mark w who (effective_at old at) (length (commits old.trail))) old new
+  pub leads : (s : Situation) → StandsFor s old → Leads seen images moment since (wish_attempts s w who at mark) old new
 
 -- the frame is built, and what it wants is granted so
 abbrev pub Answers : {D : Type 0} → (D → Option (List ℕ)) → (D → List ℕ → Type 0) → (D → ℕ) → (D → ℕ) → (D → ℕ → List ℕ → Type 0)

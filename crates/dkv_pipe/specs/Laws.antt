@@ -1,5 +1,5 @@
 -- Laws of the frames at the front of an input, and of runs, as statements.
-use Rattle.std.specs.Prelude.{◌≡◌, ◌⊎◌, ℕ, ⊤, false, IsTrue, List, [], ◌++◌, count_by}
+use Rattle.std.specs.Prelude.{◌≡◌, ◌⊎◌, ℕ, ⊤, Bool, false, IsTrue, List, [], ◌++◌, count_by}
 use Rattle.dkv_base.specs.Fits.{AreBytes}
 use Rattle.dkv_base.specs.Steps.{Situation}
 use Rattle.dkv_store.specs.Stores.{IsWithinRise}
@@ -60,11 +60,11 @@ IsTold end.WriteFault = ⊥
 IsTold end.NoMemory = ⊥
 IsTold _ = ⊤
 
--- runs that read the same bytes, with the same marks, and ended so have one course
+-- runs that read the same bytes, with the same marks, and ended so have one course, whether they write replies or a summary
 abbrev pub OneCourse : Type 0
 OneCourse =
-    (d e : PipeEnd) (from : Situation) (b c u v : Streams) (x y : Course)
-    (r : Ran d from b c x) (s : Ran e from u v y)
+    (k l : Bool) (d e : PipeEnd) (from : Situation) (b c u v : Streams) (x y : Course)
+    (r : Ran k d from b c x) (s : Ran l e from u v y)
     → IsTold d → IsTold e → r.read ≡ s.read → x.marks ≡ y.marks → x ≡ y
 
 -- ---- all of the input
@@ -72,10 +72,10 @@ OneCourse =
 -- a run over whole frames that are built ends at Ok or for want of memory, where no count of faults rose and the marks are within the disks' rise
 abbrev pub Complete : Type 0
 Complete =
-    (e : PipeEnd) (from : Situation) (before after : Streams) (c : Course)
+    (summary : Bool) (e : PipeEnd) (from : Situation) (before after : Streams) (c : Course)
     (read_old read_new write_old write_new a_old a_new b_old b_new : ℕ)
-    → Ran e from before after c
+    → Ran summary e from before after c
     → HasEndCause e after.ended (Rose read_old read_new) (Rose write_old write_new)
     → IsWithinRise (count_by (λ mark. mark) c.marks) a_old a_new b_old b_new
-    → Completes e from before after (Rose read_old read_new) (Rose write_old write_new)
+    → Completes summary e from before after (Rose read_old read_new) (Rose write_old write_new)
     (Rose a_old a_new ⊎ Rose b_old b_new)

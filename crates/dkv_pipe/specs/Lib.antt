@@ -5,7 +5,7 @@ pub mod ReplyFrames
 pub mod Pipe
 pub mod Built
 pub mod Courses
-pub mod Doubts
+pub mod Attempts
 pub mod Told
 pub mod Ends
 pub mod Stores

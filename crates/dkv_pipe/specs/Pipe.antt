@@ -3,6 +3,7 @@
 --     frame_step r s f mark      the same of a frame
 --     pipe_out r base limit frames marks      the bytes of all replies
 --     summary_out r base limit frames marks      the three lines instead
+--     output_from r summary s frames marks      the one or the other
 use Rattle.std.specs.Prelude.{ℕ, ◌^◌, Bool, nat_le, if◌then◌else◌, List, [], ◌∷◌, ◌++◌, length, drop, codes, decimal}
 use Rattle.std.specs.Int.{w64, to_le_bytes}
 use Rattle.dkv_base.specs.State.{State, seen}
@@ -55,13 +56,22 @@ after_frames r s (f ∷ fs) marks =
 abbrev pub pipe_out : Readings → State → ℕ → List PipeFrame → List Bool → List ℕ
 pipe_out r base limit frames marks = replies_from r (opened base limit) frames marks
 
--- the entries that can be seen and the messages that are pending at the last moment
+-- the three lines of these counts
+abbrev pub counted_lines : ℕ → ℕ → ℕ → ℕ → List ℕ
+counted_lines frames commits entries messages =
+    codes "frames " ++ decimal frames ++ 10 ∷ []
+    ++ codes "commits " ++ decimal commits ++ 10 ∷ []
+    ++ codes "entries " ++ decimal entries ++ codes " messages " ++ decimal messages ++ 10 ∷ []
+
+-- the number of frames and of the last commit, the entries that can be seen and the messages that are pending at the last moment
 abbrev pub summary_lines : ℕ → Situation → List ℕ
 summary_lines frames s =
-    codes "frames " ++ decimal frames ++ 10 ∷ []
-    ++ codes "commits " ++ decimal s.state.number ++ 10 ∷ []
-    ++ codes "entries " ++ decimal (length (seen s.state s.greatest))
-    ++ codes " messages " ++ decimal (length s.state.messages) ++ 10 ∷ []
+    counted_lines frames s.state.number (length (seen s.state s.greatest)) (length s.state.messages)
+
+-- what is written for frames in order: the replies, or the three lines instead
+abbrev pub output_from : Readings → Bool → Situation → List PipeFrame → List Bool → List ℕ
+output_from r summary s frames marks =
+    if summary then summary_lines (length frames) (after_frames r s frames marks) else replies_from r s frames marks
 
 -- the three lines of a pipe that begins a term on the base
 abbrev pub summary_out : Readings → State → ℕ → List PipeFrame → List Bool → List ℕ

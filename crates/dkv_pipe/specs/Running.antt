@@ -1,10 +1,10 @@
 -- A run that goes on.
 --     IsLook look bytes      what a look at some bytes says of their front
---     Running .. old before now s buffer at      all before `at` is answered, and the buffer was read since
+--     Running .. summary old before now s buffer at count      all before `at` is answered, which is so many frames, and the buffer was read since
 --     IsEarlyNumber number at      how many commits there may be at a place
 --     OnOrEnds progress on ends      what holds where a step goes on, or where it ends the run
-use Rattle.std.specs.Prelude.{◌≡◌, ℕ, ◌+◌, ◌-◌, ◌*◌, ◌^◌, ◌<◌, ◌≤◌, Bool, IsTrue, List, length, take, drop}
-use Rattle.std.specs.Io.KnownBytes.{Appends, Consumes}
+use Rattle.std.specs.Prelude.{◌≡◌, ℕ, ◌+◌, ◌-◌, ◌*◌, ◌^◌, ◌<◌, ◌≤◌, Bool, not, IsTrue, List, length, take, drop}
+use Rattle.std.specs.Io.KnownBytes.{Consumes}
 use Rattle.std.specs.declared.option.Option.{Option}
 use Rattle.dkv_store.specs.Stores.{Contents}
 use Rattle.dkv_store.specs.Situations.{StandsFor}
@@ -19,10 +19,10 @@ use Rattle.dkv_pipe.specs.declared.sizes.TheConstants.{BODY_PLACE, MAX_FRAME_BYT
 use Rattle.dkv_pipe.specs.Frames.{PipeFrame, is_body_length, front}
 use Rattle.dkv_pipe.specs.Frames as frames
 use Rattle.dkv_pipe.specs.Wishes.{readings}
-use Rattle.dkv_pipe.specs.Pipe.{after_frames}
+use Rattle.dkv_pipe.specs.Pipe.{after_frames, summary_lines}
 use Rattle.dkv_pipe.specs.Courses.{IsCourse, situation_of}
-use Rattle.dkv_pipe.specs.Doubts.{doubts_of}
-use Rattle.dkv_pipe.specs.Ends.{Streams}
+use Rattle.dkv_pipe.specs.Attempts.{attempts_of}
+use Rattle.dkv_pipe.specs.Ends.{Streams, Puts}
 use Rattle.dkv_pipe.specs.Stores.{Reaches}
 
 -- the frame with this head and body
@@ -46,19 +46,25 @@ IsLook (look.Whole head) bytes = IsWholeOf head bytes
 IsLook look.Partial bytes = (front bytes ≡ frames.Partial) × (length bytes < MAX_FRAME_BYTES)
 IsLook look.Refused bytes = front bytes ≡ frames.Refused
 
--- all before the place was read, answered and written, which led to this store, and the buffer has what was read since
+-- All before the place was read, answered and written, but with a summary not written. It led to this store, it is so many frames, and
+-- the buffer has what was read since.
 pub record Running {D : Type 0} (seen : D → Option (List ℕ)) (images : D → List ℕ → Type 0) (faults moment : D → ℕ) (since : D → ℕ → List ℕ → Type 0)
-    (old : Contents D) (before now : Streams) (s : Contents D) (buffer : List ℕ) (at : ℕ) : Type 0 where
+    (summary : Bool) (old : Contents D) (before now : Streams) (s : Contents D) (buffer : List ℕ) (at count : ℕ) : Type 0 where
   pub read : List ℕ
   pub frames : List PipeFrame
   pub marks : List Bool
   pub out : List ℕ
   pub taken : Consumes before.left now.left read
   pub answered : IsCourse (situation_of old) read (record { frames = frames; marks = marks; at = at; out = out; rest = buffer })
-  pub written : Appends before.held now.held out
+  pub written : Puts (not summary) before.held now.held out
+  pub counted : count ≡ length frames
   pub stands : StandsFor (after_frames readings (situation_of old) frames marks) s
   pub reaches : Reaches faults (length frames) marks old s
-  pub leads : Leads seen images moment since (doubts_of (situation_of old) frames marks) old s
+  pub leads : Leads seen images moment since (attempts_of (situation_of old) frames marks) old s
+
+-- the three lines of this many frames, which led to this store
+abbrev pub store_lines : {D : Type 0} → ℕ → Contents D → List ℕ
+store_lines count s = summary_lines count (situation_of s)
 
 -- few commits were made, so that their numbers never run out: a frame is no shorter than its head
 abbrev pub IsEarlyNumber : ℕ → ℕ → Type 0

@@ -1,7 +1,7 @@
 -- Where a run over frames leads a store.
 --     Reaches faults n marks old new      what the two disks and the commit number say of n frames and their marks
 --     EndsIn e s rest new      the store that is given back is the situation's
---     RunsTo seen images faults moment since e before after old new      a run over these streams, from the one store to the other, ended so
+--     RunsTo seen images faults moment since summary e before after old new      a run over these streams, from the one store to the other, ended so
 use Rattle.std.specs.Prelude.{◌≡◌, ◌⊎◌, ◌+◌, ◌≤◌, ℕ, Bool, List, length, count_by}
 use Rattle.std.specs.declared.option.Option.{Option}
 use Rattle.dkv_base.specs.Steps.{Situation, effective, raised}
@@ -14,7 +14,7 @@ use Rattle.dkv_pipe.specs.Frames.{PipeFrame, Whole, front}
 use Rattle.dkv_pipe.specs.Wishes.{readings}
 use Rattle.dkv_pipe.specs.Pipe.{after_frames}
 use Rattle.dkv_pipe.specs.Courses.{Course, situation_of}
-use Rattle.dkv_pipe.specs.Doubts.{doubts_of}
+use Rattle.dkv_pipe.specs.Attempts.{attempts_of}
 use Rattle.dkv_pipe.specs.Ends.{Streams, Ran}
 
 -- The true marks number at most the rise of the two counts of faults, which don't fall, and n frames make at most n commits.
@@ -38,10 +38,10 @@ EndsIn _ s rest new = StandsFor s new
 
 -- what was read, answered and written, and where that led and ended
 pub record RunsTo {D : Type 0} (seen : D → Option (List ℕ)) (images : D → List ℕ → Type 0) (faults moment : D → ℕ) (since : D → ℕ → List ℕ → Type 0)
-    (e : PipeEnd) (before after : Streams) (old new : Contents D) : Type 0 where
+    (summary : Bool) (e : PipeEnd) (before after : Streams) (old new : Contents D) : Type 0 where
   pub course : Course
-  pub ran : Ran e (situation_of old) before after course
+  pub ran : Ran summary e (situation_of old) before after course
   pub ends : EndsIn e (after_frames readings (situation_of old) course.frames course.marks) course.rest new
   pub reaches : Reaches faults (length course.frames) course.marks old new
-  -- stopped at any moment, the files recover to a state of the term
-  pub leads : Leads seen images moment since (doubts_of (situation_of old) course.frames course.marks) old new
+  -- stopped at any moment, the files recover to a state of the run
+  pub leads : Leads seen images moment since (attempts_of (situation_of old) course.frames course.marks) old new

@@ -6,7 +6,7 @@ ghost use Rattle.dkv_core.specs.Decisions.{may_ask};
 ghost use Rattle.dkv_store.specs.Situations.{ask_of};
 ghost use Rattle.dkv_store.specs.Stores.{IsShort, effective_at};
 ghost use Rattle.dkv_pipe.specs.Frames.{is_body_length};
-ghost use Rattle.dkv_pipe.specs.Wishes.{asks, readings, wish_of_read};
+ghost use Rattle.dkv_pipe.specs.Wishes.{asks, readings, term, wish_of_read};
 ghost use Rattle.dkv_pipe.specs.Built.{is_built};
 ghost use Rattle.dkv_pipe.specs.Grants.{Answers, Grants, IsRefusedFor};
 ghost use Rattle.dkv_pipe.specs.Running.{frame_with};
@@ -14,14 +14,14 @@ ghost use Rattle.dkv_base.specs.declared.limits.TheConstants.{MAX_REQUEST_BYTES}
 
 use crate::frame_kind::FrameKind;
 use crate::frames::{Head, id_of};
-use crate::replies::{done, is_write, limited, malformed, no_lease, tell, tell_take};
+use crate::replies::{begun, done, is_write, limited, malformed, no_lease, tell, tell_take, worn};
 use crate::reply::Reply;
 use dkv_atomic::read_limits;
 use dkv_base::{Call, NoMemory, ReadRange};
 use dkv_io::Disk;
 use dkv_msgs::{RequestError, request_atomic_write, request_snapshot_read};
 use dkv_record::requests_fit;
-use dkv_store::Store;
+use dkv_store::{Store, TermRefusal};
 use std::alloc::Global;
 use thiserror::Error;
 
@@ -186,6 +186,22 @@ fn answer_take<D: Disk>(
     tell_take(alloc, came)
 }
 
+// The reply to a frame that asks for a further term, which begins under the limit of the one that ends.
+fn answer_term<D: Disk>(store: &mut Store<D>, alloc: Global) -> Result<Reply, NoMemory>
+    ensures reply { IfOk result (λ out. (who at : ℕ) →
+        Grants D.seen D.may_leave D.faults D.moment D.left_since
+        store.old term who at out store.new) }
+    ensures none { OnErr result ((at : ℕ) →
+        IsRefusedFor D.seen D.may_leave D.moment D.left_since store.old at store.new) }
+{
+    let limit = store.limit();
+    match store.start_term(alloc, limit) {
+        Ok(_items) => Ok(begun(alloc)),
+        Err(TermRefusal::Worn { n }) => Ok(worn(alloc, n)),
+        Err(TermRefusal::NoMemory) => Err(NoMemory),
+    }
+}
+
 /// The reply to a frame with this head and body. Where there is none, nothing but the store's
 /// greatest moment may have changed.
 pub(crate) fn answer<D: Disk>(
@@ -217,8 +233,7 @@ pub(crate) fn answer<D: Disk>(
             let call = Call::Fail(id_of(body));
             Ok(answer_call(store, alloc, who, moment, call)?)
         }
-        FrameKind::Watch | FrameKind::Poll | FrameKind::Checkpoint | FrameKind::Term => {
-            Err(Unanswered::NotBuilt)
-        }
+        FrameKind::Term => Ok(answer_term(store, alloc)?),
+        FrameKind::Watch | FrameKind::Poll | FrameKind::Checkpoint => Err(Unanswered::NotBuilt),
     }
 }

@@ -17,6 +17,7 @@ mod replies;
 mod reply;
 mod reply_status;
 pub mod sizes;
+mod summary;
 
 pub use frame_kind::{FrameKind, UnknownKind};
 pub use laws::{one_run, refused_stays, whole_frames_are_answered, whole_frames_begin};

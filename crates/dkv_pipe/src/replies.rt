@@ -4,7 +4,7 @@ ghost use Rattle.std.specs.Int.{w64, to_le_bytes};
 ghost use Rattle.dkv_base.specs.Replies.{full};
 ghost use Rattle.dkv_base.specs.declared.types.Answer.TheVariants.{Leased, NoLease, Nothing, NotU64};
 ghost use Rattle.dkv_base.specs.Spelling.{id_bytes};
-ghost use Rattle.dkv_pipe.specs.ReplyFrames.{answer_bytes, bytes_of_reply, limit_bytes, malformed_bytes, reply_bytes};
+ghost use Rattle.dkv_pipe.specs.ReplyFrames.{answer_bytes, bytes_of_reply, done_bytes, limit_bytes, malformed_bytes, reply_bytes};
 ghost use Rattle.dkv_pipe.specs.Told.{is_write, made_bytes, IsFaultlessTake, IsUnstopped, IsUnstoppedTake, Tells, TellsTake};
 ghost use Rattle.dkv_pipe.specs.declared.reply_status.ReplyStatus.TheVariants as status;
 ghost use Rattle.dkv_pipe.specs.declared.sizes.TheConstants.{MAX_FRONT_BYTES};
@@ -60,6 +60,20 @@ pub(crate) fn no_lease(alloc: Global) -> Reply
     ensures { result ≡ answer_bytes NoLease }
 {
     short(alloc, ReplyStatus::NoLease, &[])
+}
+
+/// The reply that a further term began. Takes no memory.
+pub(crate) fn begun(alloc: Global) -> Reply
+    ensures { result ≡ done_bytes [] }
+{
+    short(alloc, ReplyStatus::Done, &[])
+}
+
+/// The reply that no term begins, since the last commit has this number. Takes no memory.
+pub(crate) fn worn(alloc: Global, n: u64) -> Reply
+    ensures { result ≡ reply_bytes status.Worn (to_le_bytes w64 n) }
+{
+    short(alloc, ReplyStatus::Worn, &n.to_le_bytes())
 }
 
 // The reply to a write that was made as commit `n`, or to a settlement. Takes no memory.

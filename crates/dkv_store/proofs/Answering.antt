@@ -55,6 +55,7 @@ raised_alone {D} old new t is = record {
   who = ap (λ (c : Contents D). c.who) is;
   limit = ap (λ (c : Contents D). c.limit) is;
   record_bytes = ap (λ (c : Contents D). c.record_bytes) is;
+  in_use = ap (λ (c : Contents D). c.in_use) is;
   a = ap (λ (c : Contents D). c.a) is;
   b = ap (λ (c : Contents D). c.b) is;
 }

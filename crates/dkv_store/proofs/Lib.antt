@@ -8,7 +8,10 @@ pub mod Placing
 pub mod Results
 pub mod Standing
 pub mod Trailing
+pub mod Turning
 pub mod Answering
 pub mod Taking
 pub mod Going
 pub mod Leading
+pub mod Watched
+pub mod Beside

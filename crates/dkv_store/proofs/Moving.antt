@@ -1,4 +1,4 @@
--- How a store's files move while a gate is mended and a record is added.
+-- How a store's files move while a gate is mended and a record is added. The used disk is a, and b the other one.
 use Rattle.std.proofs.Common.{◌≡◌, inl, refl, sym, ◌∙◌, ap, subst, ℕ, ◌<◌, ◌≤◌, ◌+◌, ◌-◌, ◌^◌, min, true, false, List, [], ◌∷◌, ◌++◌, length, take, drop, Option, Some, None, IsTrue, arith, length-take, length-append}
 use Rattle.dkv_base.specs.declared.types.Commit.{Commit}
 use Rattle.dkv_base.specs.State.{State}
@@ -11,8 +11,8 @@ use Rattle.dkv_journal.specs.declared.gates.TheConstants.{OPEN_GATE}
 use Rattle.dkv_io.proofs.Moments.{weaker}
 use Rattle.dkv_journal.proofs.Torn.{closed_within, doubted_within, doubted_again, doubted_mended, appended_has, length_laid}
 use Rattle.dkv_files.specs.Crashes.{Identity, IsOneOf, StatesMove, with_doubt, and_then}
-use Rattle.dkv_store.specs.Held.{MayAdd, AddMoves, RestsAt, FileStands, Hold, IsTold}
-use Rattle.dkv_files.specs.Crashes.{read}
+use Rattle.dkv_store.specs.declared.held.InUse.{InUse}
+use Rattle.dkv_store.specs.Held.{MayAdd, AddMoves, RestsAt, FileStands, Hold, IsTold, read_in}
 use Rattle.dkv_store.proofs.Holding.{shut_at, is_state, grown, record_at, one_of_both, doubt_is, legal_grown, state_grown}
 
 pub told_is : (o : Option (List ℕ)) (f : List ℕ) → o ≡ Some f → IsTold o
@@ -38,41 +38,40 @@ module _ {D : Type 0} (images : D → List ℕ → Type 0) (moment : D → ℕ) 
 
 module _ {D : Type 0} (images : D → List ℕ → Type 0) (moment : D → ℕ) (since : D → ℕ → List ℕ → Type 0)
     (counts : (d : D) (t : ℕ) (x : List ℕ) → t ≤ moment d → images d x → since d t x) (a a_end b : D)
-    (B : List ℕ → Type 0) (j : Journal) (s : State) (who : Identity) where
+    (B : List ℕ → Type 0) (j : Journal) (u : InUse) (s : State) (who : Identity) where
   -- ---- standing still
 
-  pub still : ((y : List ℕ) → images b y → B y) → (doubt : Option Commit) → Hold (images a) B j doubt s who → j.in_doubt ≡ false → StatesMove images moment since read who (with_doubt s doubt) a b a b
+  pub still : ((y : List ℕ) → images b y → B y) → (doubt : Option Commit) → Hold (images a) B j u doubt s who → j.in_doubt ≡ false → StatesMove images moment since (read_in u.second) who (with_doubt s doubt) a b a b
   still opens None hold is =
-      stays a b (λ x y has_x has_y. inl (is_state hold.found hold.generation j.place s who x y (hold.used x has_x) (hold.other y (opens y has_y)) hold.state hold.identity))
+      stays a b (λ x y has_x has_y. inl (is_state hold.found u.generation j.place s who x y (hold.used x has_x) (hold.other y (opens y has_y)) hold.state hold.identity u.second))
   still opens (Some c) hold is = absurd (cc (hold.named, is))
 
   -- what the disk calls ask: a byte at the gate in doubt, or a closed gate
-  pub within_of : (doubt : Option Commit) → Hold (images a) B j doubt s who → j.in_doubt ≡ true → (x : List ℕ) → images a x → j.place < length x
+  pub within_of : (doubt : Option Commit) → Hold (images a) B j u doubt s who → j.in_doubt ≡ true → (x : List ℕ) → images a x → j.place < length x
   within_of None hold is x now = absurd (cc (hold.named, is))
   within_of (Some c) hold is x now = let h = hold.used x now in doubted_within first_layout j.place (record_body c) h.0 x h.2
 
-  pub shut_of : Hold (images a) B j None s who → (x : List ℕ) → images a x → IsTrue (is_closed_at j.place x)
+  pub shut_of : Hold (images a) B j u None s who → (x : List ℕ) → images a x → IsTrue (is_closed_at j.place x)
   shut_of hold x now = (hold.used x now).shut
 
   -- ---- mending
 
-  pub mend_moves : ((y : List ℕ) → images b y → B y) → (doubt : Option Commit) → Hold (images a) B j doubt s who → j.in_doubt ≡ true → LeavesFrom images moment since a a_end (WithGate j.place)
-      → StatesMove images moment since read who (with_doubt s doubt) a b a_end b
+  pub mend_moves : ((y : List ℕ) → images b y → B y) → (doubt : Option Commit) → Hold (images a) B j u doubt s who → j.in_doubt ≡ true → LeavesFrom images moment since a a_end (WithGate j.place)
+      → StatesMove images moment since (read_in u.second) who (with_doubt s doubt) a b a_end b
   mend_moves opens None hold is leaves = absurd (cc (hold.named, is))
   mend_moves opens (Some c) hold is leaves =
-      moves_of images moment since counts a a_end b (λ x y. IsOneOf (read x y) (s ∷ and_then s c ∷ []) who)
-      (weaker moment since a a_end (FromStart (images a) (WithGate j.place)) (λ x. (y : List ℕ) → images b y → IsOneOf (read x y) (s ∷ and_then s c ∷ []) who)
+      moves_of images moment since counts a a_end b (λ x y. IsOneOf (read_in u.second x y) (s ∷ and_then s c ∷ []) who)
+      (weaker moment since a a_end (FromStart (images a) (WithGate j.place)) (λ x. (y : List ℕ) → images b y → IsOneOf (read_in u.second x y) (s ∷ and_then s c ∷ []) who)
       (λ x from y has.
       let h = hold.used from.0 from.1 in
-      doubt_is hold.found hold.generation j.place c s hold.sound hold.legal hold.layout hold.state hold.doubted who h.0 x y h.1
+      doubt_is hold.found u.generation j.place c s hold.sound hold.legal hold.layout hold.state hold.doubted u.second who h.0 x y h.1
       (doubted_again first_layout j.place (record_body c) h.0 from.0 h.2 x from.2) (hold.other y (opens y has)) hold.identity) leaves)
 
-  pub mend_kept : (doubt : Option Commit) → Hold (images a) B j doubt s who → j.in_doubt ≡ true → LeavesFrom images moment since a a_end (WithGate j.place)
-      → Hold (images a_end) B j doubt s who
+  pub mend_kept : (doubt : Option Commit) → Hold (images a) B j u doubt s who → j.in_doubt ≡ true → LeavesFrom images moment since a a_end (WithGate j.place)
+      → Hold (images a_end) B j u doubt s who
   mend_kept None hold is leaves = absurd (cc (hold.named, is))
   mend_kept (Some c) hold is leaves = record {
     found = hold.found;
-    generation = hold.generation;
     sound = hold.sound;
     legal = hold.legal;
     state = hold.state;
@@ -87,15 +86,14 @@ module _ {D : Type 0} (images : D → List ℕ → Type 0) (moment : D → ℕ) 
         (h.0, h.1, doubted_again first_layout j.place (record_body c) h.0 from.0 h.2 x from.2);
   }
 
-  pub mend_done : (doubt : Option Commit) (fa : List ℕ) (seen : Option (List ℕ)) → Hold (images a) B j doubt s who → j.in_doubt ≡ true → images a fa → AtRest seen (images a_end) (mended j.place fa)
-      → Hold (images a_end) B (record { place = j.place; in_doubt = false }) None s who
+  pub mend_done : (doubt : Option Commit) (fa : List ℕ) (seen : Option (List ℕ)) → Hold (images a) B j u doubt s who → j.in_doubt ≡ true → images a fa → AtRest seen (images a_end) (mended j.place fa)
+      → Hold (images a_end) B (record { place = j.place; in_doubt = false }) u None s who
   mend_done None fa seen hold is now rest = absurd (cc (hold.named, is))
   mend_done (Some c) fa seen hold is now rest =
       let h = hold.used fa now in
-      let at = shut_at hold.found hold.generation j.place h.0 (mended j.place fa) h.1 (doubted_mended first_layout j.place (record_body c) h.0 fa h.2) in
+      let at = shut_at hold.found u.generation j.place h.0 (mended j.place fa) h.1 (doubted_mended first_layout j.place (record_body c) h.0 fa h.2) in
       record {
         found = hold.found;
-        generation = hold.generation;
         sound = hold.sound;
         legal = hold.legal;
         state = hold.state;
@@ -103,53 +101,51 @@ module _ {D : Type 0} (images : D → List ℕ → Type 0) (moment : D → ℕ) 
         layout = hold.layout;
         named = refl;
         doubted = tt;
-        used = λ x left. subst (λ (y : List ℕ). RestsAt hold.found hold.generation j.place y) (sym (rest.only x left)) at;
+        used = λ x left. subst (λ (y : List ℕ). RestsAt hold.found u.generation j.place y) (sym (rest.only x left)) at;
         other = hold.other;
       }
 
   -- ---- adding
 
-  pub add_moves : ((y : List ℕ) → images b y → B y) → (c : Commit) → Hold (images a) B j None s who → MayAdd s c → AppendMoves images moment since first_layout j.place (record_body c) a a_end
-      → AddMoves images moment since who s c a b a_end b
+  pub add_moves : ((y : List ℕ) → images b y → B y) → (c : Commit) → Hold (images a) B j u None s who → MayAdd s c → AppendMoves images moment since first_layout j.place (record_body c) a a_end
+      → AddMoves images moment since u.second who s c a b a_end b
   add_moves opens c hold may moves = record {
-    a_laid = moves.written;
-    laying = moves_of images moment since counts a moves.written b (λ x y. IsOneOf (read x y) (s ∷ []) who)
-        (weaker moment since a moves.written (FromStart (images a) (StaysShut j.place)) (λ x. (y : List ℕ) → images b y → IsOneOf (read x y) (s ∷ []) who)
-        (λ x from y has. inl (is_state hold.found hold.generation j.place s who x y
-        (shut_at hold.found hold.generation j.place from.0 x (hold.used from.0 from.1) from.2) (hold.other y (opens y has)) hold.state hold.identity)) moves.laying);
-    opening = moves_of images moment since counts moves.written a_end b (λ x y. IsOneOf (read x y) (s ∷ and_then s c ∷ []) who)
-        (weaker moment since moves.written a_end (FromStart (images a) (Appended first_layout j.place (record_body c))) (λ x. (y : List ℕ) → images b y → IsOneOf (read x y) (s ∷ and_then s c ∷ []) who)
-        (λ x from y has. one_of_both hold.found hold.generation j.place c s hold.sound hold.legal hold.layout hold.state may who from.0 x y
+    laid = moves.written;
+    laying = moves_of images moment since counts a moves.written b (λ x y. IsOneOf (read_in u.second x y) (s ∷ []) who)
+        (weaker moment since a moves.written (FromStart (images a) (StaysShut j.place)) (λ x. (y : List ℕ) → images b y → IsOneOf (read_in u.second x y) (s ∷ []) who)
+        (λ x from y has. inl (is_state hold.found u.generation j.place s who x y
+        (shut_at hold.found u.generation j.place from.0 x (hold.used from.0 from.1) from.2) (hold.other y (opens y has)) hold.state hold.identity u.second)) moves.laying);
+    opening = moves_of images moment since counts moves.written a_end b (λ x y. IsOneOf (read_in u.second x y) (s ∷ and_then s c ∷ []) who)
+        (weaker moment since moves.written a_end (FromStart (images a) (Appended first_layout j.place (record_body c))) (λ x. (y : List ℕ) → images b y → IsOneOf (read_in u.second x y) (s ∷ and_then s c ∷ []) who)
+        (λ x from y has. one_of_both hold.found u.generation j.place c s hold.sound hold.legal hold.layout hold.state may u.second who from.0 x y
         (hold.used from.0 from.1) from.2 (hold.other y (opens y has)) hold.identity) moves.opening);
   }
 
-  pub add_done : (c : Commit) (fa : List ℕ) (seen : Option (List ℕ)) (j_end : Journal) (doubt : Option Commit) → Hold (images a) B j None s who → MayAdd s c → images a fa → IsTrue (is_closed_at j.place fa)
+  pub add_done : (c : Commit) (fa : List ℕ) (seen : Option (List ℕ)) (j_end : Journal) (doubt : Option Commit) → Hold (images a) B j u None s who → MayAdd s c → images a fa → IsTrue (is_closed_at j.place fa)
       → AtRest seen (images a_end) (appended first_layout j.place (record_body c) fa) → j_end.place ≡ j.place + record_size first_layout (record_body c) → j_end.in_doubt ≡ false → doubt ≡ None
-      → Hold (images a_end) B j_end doubt (and_then s c) who
+      → Hold (images a_end) B j_end u doubt (and_then s c) who
   add_done c fa seen j_end doubt hold may now shut rest place sure none =
       let has = appended_has first_layout j.place (record_body c) fa (closed_within j.place fa shut) in
-      let at = record_at hold.found hold.generation j.place c s hold.sound hold.legal hold.layout hold.state may fa (appended first_layout j.place (record_body c) fa) (hold.used fa now) has.0 has.1 in
-      subst (λ (o : Option Commit). Hold (images a_end) B j_end o (and_then s c) who) (sym none) (record {
+      let at = record_at hold.found u.generation j.place c s hold.sound hold.legal hold.layout hold.state may fa (appended first_layout j.place (record_body c) fa) (hold.used fa now) has.0 has.1 in
+      subst (λ (o : Option Commit). Hold (images a_end) B j_end u o (and_then s c) who) (sym none) (record {
         found = grown hold.found c;
-        generation = hold.generation;
         sound = hold.sound;
-        legal = legal_grown hold.found hold.generation j.place c s hold.sound hold.legal hold.layout hold.state may;
-        state = state_grown hold.found hold.generation j.place c s hold.sound hold.legal hold.layout hold.state may;
+        legal = legal_grown hold.found u.generation j.place c s hold.sound hold.legal hold.layout hold.state may;
+        state = state_grown hold.found u.generation j.place c s hold.sound hold.legal hold.layout hold.state may;
         identity = hold.identity;
         layout = hold.layout;
         named = sure;
         doubted = tt;
-        used = λ x left. subst (λ (p : ℕ). RestsAt (grown hold.found c) hold.generation p x) (sym place)
-            (subst (λ (y : List ℕ). RestsAt (grown hold.found c) hold.generation (j.place + record_size first_layout (record_body c)) y) (sym (rest.only x left)) at);
+        used = λ x left. subst (λ (p : ℕ). RestsAt (grown hold.found c) u.generation p x) (sym place)
+            (subst (λ (y : List ℕ). RestsAt (grown hold.found c) u.generation (j.place + record_size first_layout (record_body c)) y) (sym (rest.only x left)) at);
         other = hold.other;
       })
 
   -- the gate was not touched
-  pub add_shut : (j_end : Journal) (doubt : Option Commit) → Hold (images a) B j None s who → LeavesFrom images moment since a a_end (StaysShut j.place)
-      → j_end.place ≡ j.place → j_end.in_doubt ≡ false → doubt ≡ None → Hold (images a_end) B j_end doubt s who
-  add_shut j_end doubt hold leaves place sure none = subst (λ (o : Option Commit). Hold (images a_end) B j_end o s who) (sym none) (record {
+  pub add_shut : (j_end : Journal) (doubt : Option Commit) → Hold (images a) B j u None s who → LeavesFrom images moment since a a_end (StaysShut j.place)
+      → j_end.place ≡ j.place → j_end.in_doubt ≡ false → doubt ≡ None → Hold (images a_end) B j_end u doubt s who
+  add_shut j_end doubt hold leaves place sure none = subst (λ (o : Option Commit). Hold (images a_end) B j_end u o s who) (sym none) (record {
     found = hold.found;
-    generation = hold.generation;
     sound = hold.sound;
     legal = hold.legal;
     state = hold.state;
@@ -159,17 +155,16 @@ module _ {D : Type 0} (images : D → List ℕ → Type 0) (moment : D → ℕ) 
     doubted = tt;
     used = λ x now.
         let from = leaves.each x (counts a_end (moment a) x leaves.later now) in
-        subst (λ (p : ℕ). RestsAt hold.found hold.generation p x) (sym place) (shut_at hold.found hold.generation j.place from.0 x (hold.used from.0 from.1) from.2);
+        subst (λ (p : ℕ). RestsAt hold.found u.generation p x) (sym place) (shut_at hold.found u.generation j.place from.0 x (hold.used from.0 from.1) from.2);
     other = hold.other;
   })
 
   -- the gate is in doubt
-  pub add_doubted : (c : Commit) (fa : List ℕ) (j_end : Journal) → Hold (images a) B j None s who → MayAdd s c → images a fa
+  pub add_doubted : (c : Commit) (fa : List ℕ) (j_end : Journal) → Hold (images a) B j u None s who → MayAdd s c → images a fa
       → ((x : List ℕ) → images a_end x → IsDoubted first_layout j.place (record_body c) fa x) → j_end.place ≡ j.place → j_end.in_doubt ≡ true
-      → Hold (images a_end) B j_end (Some c) s who
+      → Hold (images a_end) B j_end u (Some c) s who
   add_doubted c fa j_end hold may now doubted place is = record {
     found = hold.found;
-    generation = hold.generation;
     sound = hold.sound;
     legal = hold.legal;
     state = hold.state;
@@ -177,6 +172,6 @@ module _ {D : Type 0} (images : D → List ℕ → Type 0) (moment : D → ℕ) 
     layout = hold.layout;
     named = is;
     doubted = may;
-    used = λ x left. subst (λ (p : ℕ). FileStands hold.found hold.generation p (Some c) x) (sym place) (fa, hold.used fa now, doubted x left);
+    used = λ x left. subst (λ (p : ℕ). FileStands hold.found u.generation p (Some c) x) (sym place) (fa, hold.used fa now, doubted x left);
     other = hold.other;
   }

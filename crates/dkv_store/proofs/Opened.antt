@@ -16,11 +16,12 @@ use Rattle.dkv_journal.proofs.Ends.{not_before, scan_closed, scan_place}
 use Rattle.dkv_msgs.specs.Readings.{reads_atomic_write}
 use Rattle.dkv_files.specs.declared.head.FileHead.{FileHead}
 use Rattle.dkv_files.specs.Files.{is_open, first_gate, image_length, generation_of, id_of, secret_of, layout_of}
-use Rattle.dkv_files.specs.Recovered.{Found, Recovery, found, damaged, from_file, from_records, last_gate, used_file, settled, first_opening, FirstOpening}
+use Rattle.dkv_files.specs.Recovered.{Found, Recovery, found, damaged, from_file, from_records, last_gate, used_file, uses_second, settled, first_opening, FirstOpening}
 use Rattle.dkv_files.specs.Crashes.{Identity, identity, read}
 use Rattle.dkv_files.proofs.Plain.{layout_is, gate_is, header_stands, plain_read, is_plain}
 use Rattle.dkv_files.proofs.Used.{first}
-use Rattle.dkv_store.specs.Held.{Hold, RestsAt, IsTold}
+use Rattle.dkv_store.specs.declared.held.InUse.{InUse}
+use Rattle.dkv_store.specs.Held.{Hold, Guarded, RestsAt, IsTold}
 use Rattle.dkv_store.specs.Opening.{IsHeldIn, IsAfter, IsSeenA, IsSeenB, IsRead, Tells, plain, first_place, commits_of}
 use Rattle.dkv_store.specs.Stores.{IsUnopened}
 use Rattle.dkv_store.specs.declared.answers.OpenRefusal.{OpenRefusal}
@@ -68,10 +69,9 @@ module _ (fa : List ℕ) (head : FileHead) (core : Database) (journal : Journal)
     shut = closed;
   }
 
-  pub holds : (a_images b_images : List ℕ → Type 0) → Only fa a_images → ((y : List ℕ) → b_images y → is_open y ≡ false) → journal.in_doubt ≡ false → Hold a_images b_images journal None core.state who
+  pub holds : (a_images b_images : List ℕ → Type 0) → Only fa a_images → ((y : List ℕ) → b_images y → is_open y ≡ false) → journal.in_doubt ≡ false → Hold a_images b_images journal (record { second = false; generation = head.generation }) None core.state who
   holds a_images b_images only shut sure = record {
     found = f;
-    generation = generation_of fa;
     sound = empty_is_sound;
     legal = held.made.legal;
     state = sym held.made.state;
@@ -79,14 +79,26 @@ module _ (fa : List ℕ) (head : FileHead) (core : Database) (journal : Journal)
     layout = layout;
     named = sure;
     doubted = tt;
-    used = λ x now. subst (λ (z : List ℕ). RestsAt f (generation_of fa) journal.place z) (sym (only x now)) rests;
+    used = λ x now. subst (λ (n : ℕ). RestsAt f n journal.place x) (sym (ap (λ (h : FileHead). h.generation) held.is))
+        (subst (λ (z : List ℕ). RestsAt f (generation_of fa) journal.place z) (sym (only x now)) rests);
     other = λ y now. inl (shut y now);
   }
+
+  -- the first file is used
+  pub first_used : (fb : List ℕ) → is_open fb ≡ false → (uses_second fa fb ≡ false) × (used_file fa fb ≡ fa)
+  first_used fb shut = (
+    ap (λ (v : Bool). v && (not (is_open fa) || nat_lt (generation_of fa) (generation_of fb))) shut,
+    ap (λ (v : Bool). if v && (not (is_open fa) || nat_lt (generation_of fa) (generation_of fb)) then fb else fa) shut,
+  )
+
+  -- the generation of the used file
+  pub generation_read : (fb : List ℕ) → is_open fb ≡ false → head.generation ≡ generation_of (used_file fa fb)
+  generation_read fb shut = ap (λ (h : FileHead). h.generation) held.is ∙ ap generation_of (sym (first_used fb shut).1)
 
   -- the gate behind the records, which begin at the first
   pub bytes_read : (fb : List ℕ) (n : ℕ) → is_open fb ≡ false → n ≡ journal.place - first_place → last_gate (used_file fa fb) ≡ first_gate (used_file fa fb) + n
   bytes_read fb n shut is =
-      let used : used_file fa fb ≡ fa = ap (λ (v : Bool). if v && (not (is_open fa) || nat_lt (generation_of fa) (generation_of fb)) then fb else fa) shut in
+      let used = (first_used fb shut).1 in
       let gate : first_gate fa ≡ first_place = gate_is fa held.opened held.stands held.long held.image held.new in
       let at : last_gate fa ≡ journal.place = rests.rests.gate in
       let from : first_place ≤ journal.place = subst (λ (p : ℕ). first_place ≤ p) (sym held.place)
@@ -96,6 +108,17 @@ module _ (fa : List ℕ) (head : FileHead) (core : Database) (journal : Journal)
 
   pub both_read : (fb : List ℕ) → is_open fb ≡ false → read fa fb ≡ found f
   both_read fb shut = first known_first reads_atomic_write fa fb (header_stands fa held.opened held.stands held.long held.image held.new) (inl shut) ∙ file_read
+
+-- what these hold, files hold that are these
+pub hold_of : {D : Type 0} (sees : D → Option (List ℕ)) (images : D → List ℕ → Type 0) (used used_is other other_is : D) (j j_is : Journal) (u u_is : InUse) {doubt : Option Commit} → doubt ≡ None
+    → used_is ≡ used → other_is ≡ other → j_is ≡ j → u_is ≡ u → (s : State) (who : Identity) → Hold (images used) (Guarded (sees other) (images other)) j u None s who
+    → Hold (images used_is) (Guarded (sees other_is) (images other_is)) j_is u_is doubt s who
+hold_of {D} sees images used used_is other other_is j j_is u u_is sure same_used same_other same_j same_u s who hold =
+    subst (λ (o : Option Commit). Hold (images used_is) (Guarded (sees other_is) (images other_is)) j_is u_is o s who) (sym sure)
+    (subst (λ (x : D). Hold (images x) (Guarded (sees other_is) (images other_is)) j_is u_is None s who) (sym same_used)
+    (subst (λ (x : D). Hold (images used) (Guarded (sees x) (images x)) j_is u_is None s who) (sym same_other)
+    (subst (λ (x : Journal). Hold (images used) (Guarded (sees other) (images other)) x u_is None s who) (sym same_j)
+    (subst (λ (x : InUse). Hold (images used) (Guarded (sees other) (images other)) j x None s who) (sym same_u) hold))))
 
 -- ---- what was seen and read
 

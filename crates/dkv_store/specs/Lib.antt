@@ -2,6 +2,8 @@ pub mod Held
 pub mod Stores
 pub mod Making
 pub mod Situations
+pub mod Watches
+pub mod Attempts
 pub mod Terms
 pub mod Trails
 pub mod Opening

@@ -25,6 +25,7 @@ pub record IsNextTerm {D : Type 0} (old : Contents D) (limit_is : ℕ) (new : Co
   pub who : new.who ≡ old.who
   pub limit : new.limit ≡ limit_is
   pub record_bytes : new.record_bytes ≡ old.record_bytes
+  pub in_use : new.in_use ≡ old.in_use
   pub a : new.a ≡ old.a
   pub b : new.b ≡ old.b
   pub a_first : new.a_first ≡ old.a

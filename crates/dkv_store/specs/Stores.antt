@@ -1,6 +1,7 @@
 -- What contracts see of a store, and what its type keeps.
---     Contents      the base, the items and the limit of the term, the core, the commit in doubt, the identity, the bytes of the records, and the two
---                   disks, now and when the term began
+--     Contents      the base, the items and the limit of the term, the core, the commit in doubt, the identity, the bytes of the records, which file is
+--                   used, and the two disks, now and when the term began
+--     used_of s, other_of s      the disk that is used, and the other one
 --     Keeps ..      what every store keeps
 --     IsDone, IsRefused      the answers of a commit, and what they leave
 --     IsTake, IsNotTaken      the answers of a take, and what they leave
@@ -35,13 +36,14 @@ use Rattle.dkv_core.specs.declared.takes.Taken.{Taken}
 use Rattle.dkv_core.specs.declared.takes.Taken.TheVariants as taken
 use Rattle.dkv_io.specs.Disks.{Only}
 use Rattle.dkv_msgs.specs.Readings.{reads_atomic_write}
-use Rattle.dkv_files.specs.Files.{first_gate}
+use Rattle.dkv_files.specs.Files.{first_gate, generation_of}
 use Rattle.dkv_files.specs.Recovered as Recovered
-use Rattle.dkv_files.specs.Recovered.{Found, first_opening, last_gate, used_file}
+use Rattle.dkv_files.specs.Recovered.{Found, first_opening, last_gate, used_file, uses_second}
 use Rattle.dkv_store.specs.declared.answers.OpenRefusal.{OpenRefusal}
 use Rattle.dkv_store.specs.declared.answers.OpenRefusal.TheVariants as opening
 use Rattle.dkv_files.specs.Crashes.{Identity, identity, and_then}
-use Rattle.dkv_store.specs.Held.{Hold, Guarded}
+use Rattle.dkv_store.specs.declared.held.InUse.{InUse}
+use Rattle.dkv_store.specs.Held.{Hold, Guarded, picked}
 use Rattle.dkv_files.specs.Crashes.{read}
 use Rattle.dkv_store.specs.declared.answers.Done.{Done}
 use Rattle.dkv_store.specs.declared.answers.Done.TheVariants as done
@@ -59,10 +61,19 @@ pub record Contents (D : Type 0) : Type 0 where
   pub limit : ℕ
   -- of the used file, behind its image
   pub record_bytes : ℕ
+  pub in_use : InUse
   pub a : D
   pub b : D
   pub a_first : D
   pub b_first : D
+
+-- the disk that is used
+abbrev pub used_of : {D : Type 0} → Contents D → D
+used_of s = picked s.in_use.second s.a s.b
+
+-- the disk that isn't used
+abbrev pub other_of : {D : Type 0} → Contents D → D
+other_of s = picked s.in_use.second s.b s.a
 
 -- ---- what a store keeps
 
@@ -77,7 +88,8 @@ is_doubt (item.Stop who at last) = false
 abbrev pub IsWithinRise : ℕ → ℕ → ℕ → ℕ → ℕ → Type 0
 IsWithinRise n a_first a b_first b = a < 2 ^ 64 - 1 → b < 2 ^ 64 - 1 → n + a_first + b_first ≤ a + b
 
-pub record Keeps {D : Type 0} (sees : D → Option (List ℕ)) (images : D → List ℕ → Type 0) (faults : D → ℕ) (journal : Journal) (s : Contents D) : Type 0 where
+-- the state is the base's after the trail, and the used disk and the other one hold it
+pub record Keeps {D : Type 0} (sees : D → Option (List ℕ)) (images : D → List ℕ → Type 0) (faults : D → ℕ) (journal : Journal) (used other : D) (s : Contents D) : Type 0 where
   pub sound : IsSound s.base
   pub state : s.core.state ≡ after s.base (commits s.trail)
   pub legal : IsTrue (is_legal_trail s.base s.limit s.trail)
@@ -86,7 +98,9 @@ pub record Keeps {D : Type 0} (sees : D → Option (List ℕ)) (images : D → L
   pub moments : greatest s.base s.trail ≤ s.core.greatest
   pub doubts : IsWithinRise (count_by is_doubt s.trail) (faults s.a_first) (faults s.a) (faults s.b_first) (faults s.b)
   pub named : journal.in_doubt ≡ is_some s.doubt
-  pub stands : (fa : List ℕ) → sees s.a ≡ Some fa → Hold (images s.a) (Guarded (sees s.b) (images s.b)) journal s.doubt s.core.state s.who
+  pub a_is : s.a ≡ picked s.in_use.second used other
+  pub b_is : s.b ≡ picked s.in_use.second other used
+  pub stands : (file : List ℕ) → sees used ≡ Some file → Hold (images used) (Guarded (sees other) (images other)) journal s.in_use s.doubt s.core.state s.who
 
 -- what of this a caller may use: the state after a sound base and a legal trail, the ids that are out, and the doubts
 pub record Kept {D : Type 0} (faults : D → ℕ) (s : Contents D) : Type 0 where
@@ -122,6 +136,7 @@ pub record IsRaisedTo {D : Type 0} (t : ℕ) (old new : Contents D) : Type 0 whe
   pub who : new.who ≡ old.who
   pub limit : new.limit ≡ old.limit
   pub record_bytes : new.record_bytes ≡ old.record_bytes
+  pub in_use : new.in_use ≡ old.in_use
   pub a : new.a ≡ old.a
   pub b : new.b ≡ old.b
 
@@ -142,6 +157,7 @@ pub record IsMade {D : Type 0} (t : ℕ) (c : Commit) (n : ℕ) (old new : Conte
   pub who : new.who ≡ old.who
   pub limit : new.limit ≡ old.limit
   pub record_bytes : new.record_bytes ≡ min (old.record_bytes + (5 + record_length c)) (2 ^ 64 - 1)
+  pub in_use : new.in_use ≡ old.in_use
   pub fits : FitsIn old.limit old.trail c
 
 -- the content stays, but for a doubt in the trail
@@ -154,6 +170,7 @@ pub record IsDoubtful {D : Type 0} (who t : ℕ) (old new : Contents D) : Type 0
   pub identity : new.who ≡ old.who
   pub limit : new.limit ≡ old.limit
   pub record_bytes : new.record_bytes ≡ old.record_bytes
+  pub in_use : new.in_use ≡ old.in_use
 
 -- a write passes no limit and finds no stop
 abbrev pub IsFree : {D : Type 0} → Contents D → AtomicWrite → Type 0
@@ -185,13 +202,14 @@ IsShort s who t call = IsTrue (is_legal_in s.core.state (commit_of who t call)) 
 -- ---- the other calls
 
 -- a term under this limit begins on this core and these disks: there is no item, and this is in doubt
-pub record Begins {D : Type 0} (c : Database) (me : Identity) (limit_is bytes_is : ℕ) (doubt_is : Option Commit) (x y : D) (s : Contents D) : Type 0 where
+pub record Begins {D : Type 0} (c : Database) (me : Identity) (limit_is bytes_is : ℕ) (doubt_is : Option Commit) (using : InUse) (x y : D) (s : Contents D) : Type 0 where
   pub base : s.base ≡ c.state
   pub core : s.core ≡ c
   pub trail : s.trail ≡ []
   pub roomless : s.roomless ≡ []
   pub doubt : s.doubt ≡ doubt_is
   pub record_bytes : s.record_bytes ≡ bytes_is
+  pub in_use : s.in_use ≡ using
   pub who : s.who ≡ me
   pub limit : s.limit ≡ limit_is
   pub a_is : s.a ≡ x
@@ -211,6 +229,8 @@ pub record IsFresh {D : Type 0} (a b : D) (limit_is : ℕ) (s : Contents D) : Ty
   pub id : s.who.id ≡ replicate 16 0
   pub secret : s.who.secret ≡ replicate 32 0
   pub record_bytes : s.record_bytes ≡ 0
+  pub second : s.in_use.second ≡ false
+  pub generation : s.in_use.generation ≡ 1
   pub limit : s.limit ≡ limit_is
   pub a_is : s.a ≡ a
   pub b_is : s.b ≡ b
@@ -239,6 +259,7 @@ pub record SameDisks {D : Type 0} (old new : Contents D) : Type 0 where
   pub who : new.who ≡ old.who
   pub limit : new.limit ≡ old.limit
   pub record_bytes : new.record_bytes ≡ old.record_bytes
+  pub in_use : new.in_use ≡ old.in_use
   pub a_first : new.a_first ≡ old.a_first
   pub b_first : new.b_first ≡ old.b_first
 
@@ -254,6 +275,8 @@ pub record IsOpened {D : Type 0} (images : D → List ℕ → Type 0) (fa fb : L
   pub trail : s.trail ≡ []
   pub out_none : s.core.out ≡ []
   pub record_bytes : last_gate (used_file fa fb) ≡ first_gate (used_file fa fb) + s.record_bytes
+  pub second : s.in_use.second ≡ uses_second fa fb
+  pub generation : s.in_use.generation ≡ generation_of (used_file fa fb)
   pub doubt : s.doubt ≡ None
   pub a_only : Only fa (images s.a)
   pub b_only : Only fb (images s.b)

@@ -1,18 +1,18 @@
 // The calls of a store as the one-thread database answers them.
-ghost use Rattle.std.specs.Prelude.{◌≡◌, ◌<◌, ◌≤◌, ◌-◌, ◌^◌, ℕ, [], length, false, IsTrue, IfErr, IfOk, MatchResult, None, Some, Err};
+ghost use Rattle.std.specs.Prelude.{◌≡◌, ◌<◌, ◌≤◌, ◌-◌, ◌^◌, ℕ, [], false, IsTrue, IfErr, IfOk, MatchResult, None, Some, Err};
 ghost use Rattle.dkv_base.specs.declared.types.Ask.TheVariants.{Read};
 ghost use Rattle.dkv_base.specs.declared.types.Answer.TheVariants.{Entries};
 ghost use Rattle.dkv_base.specs.Limits.{read_limit};
 ghost use Rattle.dkv_base.specs.Replies.{read_reply, said};
-ghost use Rattle.dkv_base.specs.Trails.{commits};
 ghost use Rattle.dkv_core.specs.Decisions.{commit_of, may_ask};
 ghost use Rattle.dkv_io.specs.Causes.{Rose};
 ghost use Rattle.dkv_msgs.specs.Outputs.{read_output};
 ghost use Rattle.dkv_msgs.specs.Spellings.{spell_snapshot_read_output};
 ghost use Rattle.dkv_io.specs.Disks.{Told, AnyBytes};
 ghost use Rattle.dkv_store.specs.Situations.{Answers, AnswersCall, AnswersTake};
-ghost use Rattle.dkv_store.specs.Stores.{IsAckWithPlace, IsDone, IsRefused, IsRaisedTo, IsShort, IsOldOrNew, IsNotTaken, IsTake, Kept, SameDisks, effective_at};
-ghost use Rattle.dkv_store.specs.Terms.{CommitLeaves, FilesStand, Leads, left_in_doubt};
+ghost use Rattle.dkv_store.specs.Stores.{IsAckWithPlace, IsDone, IsRefused, IsRaisedTo, IsShort, IsOldOrNew, IsNotTaken, IsTake, Kept, SameDisks, effective_at, used_of, other_of};
+ghost use Rattle.dkv_store.specs.Attempts.{attempted};
+ghost use Rattle.dkv_store.specs.Terms.{CommitLeaves, FilesStand, Leads};
 ghost use Rattle.dkv_store.specs.declared.answers.Refusal.TheVariants as refusal;
 
 use crate::answers::{Done, Refusal};
@@ -44,23 +44,27 @@ impl<D: Disk> Store<D> {
         ensures answer { MatchResult result
             (λ d. IsDone self.old who (effective_at self.old at) call d self.new)
             (λ r. IsRefused self.old who (effective_at self.old at) call r self.new) }
-        // Stopped at any moment, the files recover to a state of the term.
+        // Stopped at any moment, the files recover to a state of the run.
         ensures goes { Leads D.seen D.may_leave D.moment D.left_since
-            (left_in_doubt result (length (commits self.old.trail))
-            (commit_of who (effective_at self.old at) call))
+            (attempted result (commit_of who (effective_at self.old at) call))
             self.old self.new }
         ensures moves { CommitLeaves D.seen D.may_leave D.moment D.left_since
             self.old (commit_of who (effective_at self.old at) call) self.new }
         ensures cause { result ≡ Err refusal.DiskFault
-            → Rose (D.faults self.old.a) (D.faults self.new.a) }
+            → Rose (D.faults (used_of self.old)) (D.faults (used_of self.new)) }
         // In doubt is the old commit or this one, if one is.
         ensures doubted { result ≡ Err refusal.DiskFault → IsOldOrNew
             self.old.doubt (commit_of who (effective_at self.old at) call) self.new.doubt }
-        ensures told { Told AnyBytes (D.seen self.old.a) (D.seen self.new.a) }
-        ensures later { D.faults self.old.a ≤ D.faults self.new.a }
-        ensures other { self.new.b ≡ self.old.b }
+        ensures told { Told AnyBytes (D.seen self.old.a) (D.seen self.new.a)
+            × Told AnyBytes (D.seen self.old.b) (D.seen self.new.b) }
+        ensures later { (D.faults self.old.a ≤ D.faults self.new.a)
+            × (D.faults self.old.b ≤ D.faults self.new.b) }
+        ensures other { other_of self.new ≡ other_of self.old }
+        ensures in_use { self.new.in_use ≡ self.old.in_use }
         ensures first { (self.new.a_first ≡ self.old.a_first)
             × (self.new.b_first ≡ self.old.b_first) }
+        // Who watches goes on: so it is after each call but those on watches.
+        ensures watches { self.new.core.watches ≡ self.old.core.watches }
         // The acknowledgement of a message that has a place takes no memory.
         ensures free { IsAckWithPlace call self.old.roomless
             → result ≡ Err refusal.NoMemory → ⊥ }
@@ -82,6 +86,7 @@ impl<D: Disk> Store<D> {
             (λ r. IsNotTaken self.old who (effective_at self.old at) r self.new) }
         ensures goes { Leads D.seen D.may_leave D.moment D.left_since [] self.old self.new }
         ensures disks { SameDisks self.old self.new }
+        ensures watches { self.new.core.watches ≡ self.old.core.watches }
     {
         self.is_kept();
         self.take_kept(alloc, who, at)
@@ -102,6 +107,7 @@ impl<D: Disk> Store<D> {
             self.new }
         ensures goes { Leads D.seen D.may_leave D.moment D.left_since [] self.old self.new }
         ensures short { IsRaisedTo (effective_at self.old at) self.old self.new }
+        ensures watches { self.new.core.watches ≡ self.old.core.watches }
     {
         self.is_kept();
         self.read_kept(alloc, at, ranges)
@@ -122,6 +128,7 @@ impl<D: Disk> Store<D> {
             (said (Entries (read_reply self.old.core.state (effective_at self.old at) ranges.now))) self.new }
         ensures goes { Leads D.seen D.may_leave D.moment D.left_since [] self.old self.new }
         ensures short { IsRaisedTo (effective_at self.old at) self.old self.new }
+        ensures watches { self.new.core.watches ≡ self.old.core.watches }
     {
         self.is_kept();
         self.spell_kept(alloc, at, ranges)

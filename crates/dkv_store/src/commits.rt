@@ -11,8 +11,8 @@ ghost use Rattle.dkv_msgs.specs.Readings.{reads_atomic_write};
 ghost use Rattle.dkv_record.specs.Records.{commit_of as read_as};
 ghost use Rattle.dkv_io.specs.Causes.{Rose};
 ghost use Rattle.dkv_io.specs.Disks.{Told, AnyBytes};
-ghost use Rattle.dkv_store.specs.Stores.{IsAckWithPlace, IsDone, IsRefused, IsShort, IsOldOrNew, effective_at};
-ghost use Rattle.dkv_store.specs.Held.{CommitMoves};
+ghost use Rattle.dkv_store.specs.Stores.{IsAckWithPlace, IsDone, IsRefused, IsShort, IsOldOrNew, effective_at, used_of, other_of};
+ghost use Rattle.dkv_store.specs.Terms.{CommitLeaves};
 ghost use Rattle.dkv_store.specs.declared.answers.Refusal.TheVariants as refusal;
 
 use crate::answers::{Done, Refusal};
@@ -42,23 +42,24 @@ impl<D: Disk> Store<D> {
         ensures answer { MatchResult result
             (λ d. IsDone self.old who (effective_at self.old at) call d self.new)
             (λ r. IsRefused self.old who (effective_at self.old at) call r self.new) }
-        ensures moves { (fa fb : List ℕ) → D.seen self.old.a ≡ Some fa → D.seen self.old.b ≡ Some fb
-            → CommitMoves D.may_leave D.moment D.left_since
-            self.old.who self.old.core.state self.old.doubt (commit_of who (effective_at self.old at) call)
-            self.old.a self.old.b self.new.a self.new.b }
+        ensures moves { CommitLeaves D.seen D.may_leave D.moment D.left_since
+            self.old (commit_of who (effective_at self.old at) call) self.new }
         // All memory is taken before the first disk call.
-        ensures untouched { result ≡ Err refusal.NoMemory → self.new.a ≡ self.old.a }
+        ensures untouched { result ≡ Err refusal.NoMemory
+            → (self.new.a ≡ self.old.a) × (self.new.b ≡ self.old.b) }
         ensures cause { result ≡ Err refusal.DiskFault
-            → Rose (D.faults self.old.a) (D.faults self.new.a) }
+            → Rose (D.faults (used_of self.old)) (D.faults (used_of self.new)) }
         // In doubt is the old commit or this one, if one is.
         ensures doubted { result ≡ Err refusal.DiskFault
             → IsOldOrNew self.old.doubt
             (commit_of who (effective_at self.old at) call) self.new.doubt }
-        ensures told { Told AnyBytes (D.seen self.old.a) (D.seen self.new.a) }
-        ensures later { D.faults self.old.a ≤ D.faults self.new.a }
-        ensures other { self.new.b ≡ self.old.b }
+        ensures told { Told AnyBytes (D.seen (used_of self.old)) (D.seen (used_of self.new)) }
+        ensures later { D.faults (used_of self.old) ≤ D.faults (used_of self.new) }
+        ensures other { other_of self.new ≡ other_of self.old }
+        ensures in_use { self.new.in_use ≡ self.old.in_use }
         ensures first { (self.new.a_first ≡ self.old.a_first)
             × (self.new.b_first ≡ self.old.b_first) }
+        ensures watches { self.new.core.watches ≡ self.old.core.watches }
         // The acknowledgement of a message that has a place takes no memory.
         ensures free { IsAckWithPlace call self.old.roomless → result ≡ Err refusal.NoMemory → ⊥ }
     {
@@ -91,21 +92,22 @@ impl<D: Disk> Store<D> {
         ensures answer { MatchResult result
             (λ d. IsDone self.old who at call d self.new)
             (λ r. IsRefused self.old who at call r self.new) }
-        ensures moves { (fa fb : List ℕ) → D.seen self.old.a ≡ Some fa → D.seen self.old.b ≡ Some fb
-            → CommitMoves D.may_leave D.moment D.left_since
-            self.old.who self.old.core.state self.old.doubt (commit_of who at call)
-            self.old.a self.old.b self.new.a self.new.b }
+        ensures moves { CommitLeaves D.seen D.may_leave D.moment D.left_since
+            self.old (commit_of who at call) self.new }
         // All memory is taken before the first disk call.
-        ensures untouched { result ≡ Err refusal.NoMemory → self.new.a ≡ self.old.a }
+        ensures untouched { result ≡ Err refusal.NoMemory
+            → (self.new.a ≡ self.old.a) × (self.new.b ≡ self.old.b) }
         ensures cause { result ≡ Err refusal.DiskFault
-            → Rose (D.faults self.old.a) (D.faults self.new.a) }
+            → Rose (D.faults (used_of self.old)) (D.faults (used_of self.new)) }
         ensures doubted { result ≡ Err refusal.DiskFault
             → IsOldOrNew self.old.doubt (commit_of who at call) self.new.doubt }
-        ensures told { Told AnyBytes (D.seen self.old.a) (D.seen self.new.a) }
-        ensures later { D.faults self.old.a ≤ D.faults self.new.a }
-        ensures other { self.new.b ≡ self.old.b }
+        ensures told { Told AnyBytes (D.seen (used_of self.old)) (D.seen (used_of self.new)) }
+        ensures later { D.faults (used_of self.old) ≤ D.faults (used_of self.new) }
+        ensures other { other_of self.new ≡ other_of self.old }
+        ensures in_use { self.new.in_use ≡ self.old.in_use }
         ensures first { (self.new.a_first ≡ self.old.a_first)
             × (self.new.b_first ≡ self.old.b_first) }
+        ensures watches { self.new.core.watches ≡ self.old.core.watches }
         // The acknowledgement of a message that has a place takes no memory.
         ensures free { IsAckWithPlace call self.old.roomless → result ≡ Err refusal.NoMemory → ⊥ }
     {

@@ -20,38 +20,39 @@ use dkv_journal::Laid;
 pub fn write<D: Disk>(files: &mut Files<D>, laid: &Laid, commit: &Commit) -> Result<(), Failed>
     requires named { files.old.journal.in_doubt ≡ is_some files.old.doubt }
     requires spelled { laid.now ≡ laid_of first_layout 0 (record_body commit.now) }
-    requires stands { (fa : List ℕ) → D.seen files.old.pair.a ≡ Some fa
-        → SomeHold (D.may_leave files.old.pair.a)
-        (Guarded (D.seen files.old.pair.b) (D.may_leave files.old.pair.b)) files.old.journal
-        (option_map (λ d. d.value) files.old.doubt) }
-    ensures moves { (s : State) (who : Identity) (fa fb : List ℕ)
-        → D.seen files.old.pair.a ≡ Some fa → D.seen files.old.pair.b ≡ Some fb
-        → Hold (D.may_leave files.old.pair.a)
-        (Guarded (D.seen files.old.pair.b) (D.may_leave files.old.pair.b)) files.old.journal
-        (option_map (λ d. d.value) files.old.doubt) s who → MayAdd s commit.now
-        → CommitMoves D.may_leave D.moment D.left_since who s
+    requires stands { (file : List ℕ) → D.seen files.old.used ≡ Some file
+        → SomeHold (D.may_leave files.old.used)
+        (Guarded (D.seen files.old.other) (D.may_leave files.old.other)) files.old.journal
+        files.old.in_use (option_map (λ d. d.value) files.old.doubt) }
+    ensures moves { (s : State) (who : Identity) (file other : List ℕ)
+        → D.seen files.old.used ≡ Some file → D.seen files.old.other ≡ Some other
+        → Hold (D.may_leave files.old.used)
+        (Guarded (D.seen files.old.other) (D.may_leave files.old.other)) files.old.journal
+        files.old.in_use (option_map (λ d. d.value) files.old.doubt) s who → MayAdd s commit.now
+        → CommitMoves D.may_leave D.moment D.left_since files.old.in_use.second who s
         (option_map (λ d. d.value) files.old.doubt) commit.now
-        files.old.pair.a files.old.pair.b files.new.pair.a files.new.pair.b }
-    ensures holds { (s : State) (who : Identity) (fa : List ℕ) → D.seen files.old.pair.a ≡ Some fa
-        → Hold (D.may_leave files.old.pair.a)
-        (Guarded (D.seen files.old.pair.b) (D.may_leave files.old.pair.b)) files.old.journal
-        (option_map (λ d. d.value) files.old.doubt) s who → MayAdd s commit.now
+        files.old.used files.old.other files.new.used files.new.other }
+    ensures holds { (s : State) (who : Identity) (file : List ℕ) → D.seen files.old.used ≡ Some file
+        → Hold (D.may_leave files.old.used)
+        (Guarded (D.seen files.old.other) (D.may_leave files.old.other)) files.old.journal
+        files.old.in_use (option_map (λ d. d.value) files.old.doubt) s who → MayAdd s commit.now
         → MatchResult result
-        (λ _. Hold (D.may_leave files.new.pair.a)
-        (Guarded (D.seen files.new.pair.b) (D.may_leave files.new.pair.b)) files.new.journal
-        (option_map (λ d. d.value) files.new.doubt) (and_then s commit.now) who)
-        (λ _. Hold (D.may_leave files.new.pair.a)
-        (Guarded (D.seen files.new.pair.b) (D.may_leave files.new.pair.b)) files.new.journal
-        (option_map (λ d. d.value) files.new.doubt) s who) }
+        (λ _. Hold (D.may_leave files.new.used)
+        (Guarded (D.seen files.new.other) (D.may_leave files.new.other)) files.new.journal
+        files.new.in_use (option_map (λ d. d.value) files.new.doubt) (and_then s commit.now) who)
+        (λ _. Hold (D.may_leave files.new.used)
+        (Guarded (D.seen files.new.other) (D.may_leave files.new.other)) files.new.journal
+        files.new.in_use (option_map (λ d. d.value) files.new.doubt) s who) }
     ensures named { files.new.journal.in_doubt ≡ is_some files.new.doubt }
     ensures sure { OnOk result (files.new.journal.in_doubt ≡ false) }
     // In doubt is the old commit or this one, if one is.
     ensures doubted { OnErr result
         (IsOldOrNew (option_map (λ d. d.value) files.old.doubt) commit.now
         (option_map (λ d. d.value) files.new.doubt)) }
-    ensures other { files.new.pair.b ≡ files.old.pair.b }
-    ensures told { Told AnyBytes (D.seen files.old.pair.a) (D.seen files.new.pair.a) }
-    ensures cause { HasCause (D.faults files.old.pair.a) (D.faults files.new.pair.a) result }
+    ensures other { files.new.other ≡ files.old.other }
+    ensures in_use { files.new.in_use ≡ files.old.in_use }
+    ensures told { Told AnyBytes (D.seen files.old.used) (D.seen files.new.used) }
+    ensures cause { HasCause (D.faults files.old.used) (D.faults files.new.used) result }
 {
     match mend(files) {
         Ok(()) => add(files, laid, commit),

@@ -21,6 +21,7 @@ mod takes;
 mod tells;
 mod terms;
 mod trail;
+mod watches;
 
 pub use answers::{Done, OpenRefusal, Refusal};
 pub use opening::open_store;

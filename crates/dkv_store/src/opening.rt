@@ -11,7 +11,7 @@ ghost use Rattle.dkv_store.specs.declared.answers.OpenRefusal.TheVariants as ope
 ghost use Rattle.dkv_store.specs.declared.trail.TheConstants.{MAX_TRAIL_BYTES};
 
 use crate::answers::OpenRefusal;
-use crate::held::Files;
+use crate::held::{Files, InUse};
 use crate::looks::{judge, look_at};
 use crate::replay::{FIRST_GATE, Unmade, read_records};
 use crate::store::Store;
@@ -51,11 +51,11 @@ pub fn open_store<D: Disk>(
     match recover(alloc, &mut pair) {
         Ok((head, core, journal)) => {
             let record_bytes = bytes_before(&journal);
-            let files = Files {
-                journal,
-                doubt: None,
-                pair,
+            let in_use = InUse {
+                second: false,
+                generation: head.generation,
             };
+            let files = Files::of(pair, in_use, journal);
             Ok(Store::begin(
                 alloc,
                 core,

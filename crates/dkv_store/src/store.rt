@@ -3,10 +3,10 @@ ghost use Rattle.std.specs.Prelude.{◌≡◌, ◌≤◌, ℕ, List, [], IfOk, S
 ghost use Rattle.dkv_base.specs.Sound.{IsSound};
 ghost use Rattle.dkv_base.specs.declared.types.Profile.TheVariants.{Narrow};
 ghost use Rattle.dkv_files.specs.Crashes.{StandsOrDoubtful, read};
-ghost use Rattle.dkv_store.specs.Held.{Hold, Guarded};
+ghost use Rattle.dkv_store.specs.Held.{Hold, Guarded, picked};
 ghost use Rattle.dkv_store.specs.declared.trail.TheConstants.{MAX_TRAIL_BYTES};
 
-use crate::held::Files;
+use crate::held::{FIRST_USE, Files};
 use crate::recall::Recall;
 use crate::replay::FIRST_GATE;
 use crate::trail::Trail;
@@ -31,12 +31,14 @@ pub struct Store<D: Disk> {
     // Of the used file, behind its image.
     pub(crate) record_bytes: u64,
     pub(crate) files: Files<D>,
-    pub(crate) first: Recall<Pair<D>>,
+    // As the term began.
+    pub(crate) first: Recall<Files<D>>,
 }
 
 impl<D: Disk> Model for Store<D> {
     ghost use Rattle.std.specs.Prelude.{option_map};
     ghost use Rattle.dkv_base.specs.declared.types.Profile.TheVariants.{Narrow};
+    ghost use Rattle.dkv_store.specs.Held.{picked};
     ghost use Rattle.dkv_store.specs.Stores.{Contents, Keeps};
 
     ghost Value = { Contents D };
@@ -50,26 +52,29 @@ impl<D: Disk> Model for Store<D> {
       who = record { id = s.id; secret = s.secret; profile = Narrow };
       limit = s.limit;
       record_bytes = s.record_bytes;
-      a = s.files.pair.a;
-      b = s.files.pair.b;
-      a_first = s.first.value.a;
-      b_first = s.first.value.b;
+      in_use = s.files.in_use;
+      a = picked s.files.in_use.second s.files.used s.files.other;
+      b = picked s.files.in_use.second s.files.other s.files.used;
+      a_first = picked s.first.value.in_use.second s.first.value.used s.first.value.other;
+      b_first = picked s.first.value.in_use.second s.first.value.other s.first.value.used;
     } };
 
-    ghost invariant = { λ s. Keeps D.seen D.may_leave D.faults s.files.journal (record {
-      base = s.base.value.state;
-      core = s.core;
-      trail = s.trail.items;
-      roomless = s.trail.roomless;
-      doubt = option_map (λ d. d.value) s.files.doubt;
-      who = record { id = s.id; secret = s.secret; profile = Narrow };
-      limit = s.limit;
-      record_bytes = s.record_bytes;
-      a = s.files.pair.a;
-      b = s.files.pair.b;
-      a_first = s.first.value.a;
-      b_first = s.first.value.b;
-    }) };
+    ghost invariant = { λ s. Keeps D.seen D.may_leave D.faults
+        s.files.journal s.files.used s.files.other (record {
+          base = s.base.value.state;
+          core = s.core;
+          trail = s.trail.items;
+          roomless = s.trail.roomless;
+          doubt = option_map (λ d. d.value) s.files.doubt;
+          who = record { id = s.id; secret = s.secret; profile = Narrow };
+          limit = s.limit;
+          record_bytes = s.record_bytes;
+          in_use = s.files.in_use;
+          a = picked s.files.in_use.second s.files.used s.files.other;
+          b = picked s.files.in_use.second s.files.other s.files.used;
+          a_first = picked s.first.value.in_use.second s.first.value.used s.first.value.other;
+          b_first = picked s.first.value.in_use.second s.first.value.other s.first.value.used;
+        }) };
 }
 
 impl<D: Disk> Store<D> {
@@ -90,14 +95,17 @@ impl<D: Disk> Store<D> {
         requires none { core.out ≡ [] }
         requires late { core.state.moment ≤ core.greatest }
         requires named { files.journal.in_doubt ≡ is_some files.doubt }
-        requires stands { (fa : List ℕ) → D.seen files.pair.a ≡ Some fa
-            → Hold (D.may_leave files.pair.a) (Guarded (D.seen files.pair.b) (D.may_leave files.pair.b))
-            files.journal (option_map (λ d. d.value) files.doubt) core.state (record { id = id; secret = secret; profile = Narrow }) }
+        requires stands { (file : List ℕ) → D.seen files.used ≡ Some file
+            → Hold (D.may_leave files.used) (Guarded (D.seen files.other) (D.may_leave files.other))
+            files.journal files.in_use (option_map (λ d. d.value) files.doubt)
+            core.state (record { id = id; secret = secret; profile = Narrow }) }
         ensures { Begins core (record { id = id; secret = secret; profile = Narrow })
-            limit record_bytes (option_map (λ d. d.value) files.doubt) files.pair.a files.pair.b result }
+            limit record_bytes (option_map (λ d. d.value) files.doubt) files.in_use
+            (picked files.in_use.second files.used files.other)
+            (picked files.in_use.second files.other files.used) result }
     {
         let base = Recall::of(&core);
-        let first = Recall::of(&files.pair);
+        let first = Recall::of(&files);
         let trail = Trail::new(alloc);
         Store {
             core,
@@ -126,11 +134,7 @@ impl<D: Disk> Store<D> {
     {
         match Core::empty(alloc) {
             Ok(core) => {
-                let files = Files {
-                    journal: Journal::at(FIRST_GATE),
-                    doubt: None,
-                    pair,
-                };
+                let files = Files::of(pair, FIRST_USE, Journal::at(FIRST_GATE));
                 Ok(Store::begin(alloc, core, [0; 16], [0; 32], trail_limit, 0, files))
             }
             Err(none) => Err((pair, none)),
@@ -156,7 +160,7 @@ impl<D: Disk> Store<D> {
             files,
             first: _,
         } = self;
-        files.pair
+        files.into_pair()
     }
 
     /// Gives the two files back, and the items of the term. Takes no memory.
@@ -179,6 +183,6 @@ impl<D: Disk> Store<D> {
             files,
             first: _,
         } = self;
-        (files.pair, trail.into_run())
+        (files.into_pair(), trail.into_run())
     }
 }

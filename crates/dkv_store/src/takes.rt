@@ -1,5 +1,5 @@
 // Messages, taken one after the other.
-ghost use Rattle.std.specs.Prelude.{IfOk, IfErr};
+ghost use Rattle.std.specs.Prelude.{◌≡◌, IfOk, IfErr};
 ghost use Rattle.dkv_store.specs.Stores.{IsTake, IsNotTaken, SameDisks, effective_at};
 
 use crate::answers::Refusal;
@@ -19,6 +19,7 @@ impl<D: Disk> Store<D> {
         ensures refused { IfErr result
             (λ r. IsNotTaken self.old who (effective_at self.old at) r self.new) }
         ensures disks { SameDisks self.old self.new }
+        ensures watches { self.new.core.watches ≡ self.old.core.watches }
     {
         let at = self.core.moment(at);
         let message = match self.core.due(at) {

@@ -1,19 +1,23 @@
 // A further term: what is out is forgotten, and the items begin anew.
-ghost use Rattle.std.specs.Prelude.{◌≡◌, ◌≤◌, ◌<◌, ◌^◌, [], ◌∷◌, IsTrue, IfOk, IfErr, IfSome, IfNone, Some};
+ghost use Rattle.std.specs.Prelude.{◌≡◌, ◌≤◌, ◌<◌, ◌^◌, [], ◌∷◌, IsTrue, IfOk, IfErr, OnOk, OnErr, IfSome, IfNone, Some};
 ghost use Rattle.dkv_base.specs.Sound.{IsSound};
 ghost use Rattle.dkv_base.specs.State.{is_in_id_order};
 ghost use Rattle.dkv_image_io.specs.Walks.{later};
 ghost use Rattle.dkv_queue.specs.Rows.{messages_of};
 ghost use Rattle.dkv_store.specs.Renewing.{IsRenewed, IsNextTerm, IsNoTerm};
+ghost use Rattle.dkv_store.specs.Terms.{Leads};
 ghost use Rattle.dkv_store.specs.declared.trail.TheConstants.{MAX_TRAIL_BYTES};
 
+use crate::recall::Recall;
 use crate::store::Store;
+use crate::trail::Trail;
 use dkv_base::{Entry, Item, Message, MsgId, NoMemory, Run, TryCopy};
 use dkv_core::Core;
 use dkv_io::Disk;
 use dkv_queue::Queue;
 use dkv_table::Table;
 use std::alloc::Global;
+use std::mem;
 use thiserror::Error;
 
 /// No term begins where the last commit has this number, or one above it.
@@ -31,9 +35,9 @@ pub enum TermRefusal {
 }
 
 impl<D: Disk> Store<D> {
-    /// Begins a further term on the state as it stands, and gives the items of the one that ends. What is out is forgotten, and
-    /// the greatest moment is the last commit's. `trail_limit` bounds the weight of the new term's items, in bytes. Touches no
-    /// disk. Takes memory for a copy of the state. A store that begins no term comes back as it was.
+    /// Begins a further term on the state as it stands, and gives the items of the one that ends and the store. What is out is
+    /// forgotten, and the greatest moment is the last commit's. `trail_limit` bounds the weight of the new term's items, in bytes.
+    /// Touches no disk. Takes memory for a copy of the state. A store that begins no term comes back as it was.
     pub fn next_term(
         self,
         alloc: Global,
@@ -44,15 +48,34 @@ impl<D: Disk> Store<D> {
         ensures items { IfOk result (λ r. r.1 ≡ self.trail) }
         ensures refused { IfErr result (λ e. IsNoTerm self e.0) }
         ensures same { IfErr result (λ e. e.1 ≡ self) }
+        ensures goes { IfOk result (λ r.
+            Leads D.seen D.may_leave D.moment D.left_since [] self r.0) }
+    {
+        let mut store = self;
+        match store.start_term(alloc, trail_limit) {
+            Ok(items) => Ok((store, items)),
+            Err(refusal) => Err((refusal, store)),
+        }
+    }
+
+    /// Begins a further term as `next_term` does, in place, and gives the items of the one that ends.
+    pub fn start_term(&mut self, alloc: Global, trail_limit: u64) -> Result<Run<Item>, TermRefusal>
+        ensures begun { OnOk result (IsNextTerm self.old trail_limit self.new) }
+        ensures items { IfOk result (λ items. items ≡ self.old.trail) }
+        ensures refused { IfErr result (IsNoTerm self.old) }
+        ensures same { OnErr result (self.new ≡ self.old) }
+        // Stopped at any moment, the files recover to a state of the run.
+        ensures goes { OnOk result
+            (Leads D.seen D.may_leave D.moment D.left_since [] self.old self.new) }
     {
         self.is_sound();
         let n = self.core.number();
         if n >= WORN {
-            return Err((TermRefusal::Worn { n }, self));
+            return Err(TermRefusal::Worn { n });
         }
         match renewed(alloc, &self.core) {
             Ok(core) => Ok(self.go_on(alloc, core, trail_limit)),
-            Err(NoMemory) => Err((TermRefusal::NoMemory, self)),
+            Err(NoMemory) => Err(TermRefusal::NoMemory),
         }
     }
 
@@ -64,28 +87,17 @@ impl<D: Disk> Store<D> {
     }
 
     // A term begins on a core of the same state.
-    fn go_on(self, alloc: Global, core: Core, limit: u64) -> (Store<D>, Run<Item>)
-        requires few { self.core.state.number < 2 ^ 62 }
-        requires renewed { IsRenewed self.core core }
-        ensures begun { IsNextTerm self limit result.0 }
-        ensures items { result.1 ≡ self.trail }
+    fn go_on(&mut self, alloc: Global, core: Core, limit: u64) -> Run<Item>
+        requires few { self.old.core.state.number < 2 ^ 62 }
+        requires renewed { IsRenewed self.old.core core }
+        ensures begun { IsNextTerm self.old limit self.new }
+        ensures items { result ≡ self.old.trail }
     {
-        let Store {
-            core: _,
-            base: _,
-            trail,
-            id,
-            secret,
-            limit: _,
-            record_bytes,
-            files,
-            first: _,
-        } = self;
-        let items = trail.into_run();
-        (
-            Store::begin(alloc, core, id, secret, limit, record_bytes, files),
-            items,
-        )
+        self.base = Recall::of(&core);
+        self.first = Recall::of(&self.files);
+        self.core = core;
+        self.limit = limit;
+        mem::replace(&mut self.trail, Trail::new(alloc)).into_run()
     }
 }
 

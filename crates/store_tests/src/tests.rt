@@ -2,3 +2,4 @@
 mod calls;
 mod opening;
 mod terms;
+mod watches;

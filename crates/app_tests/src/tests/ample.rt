@@ -41,5 +41,13 @@ fn ample_memory_never_answers_no_memory(rt: HostRuntime) -> Result<(), Fail> {
         assert_eq!(rt; left.exit, 0);
         assert_eq!(rt; left.out.as_slice(), wanted.as_slice());
     }
+    for line in ["pipe --summary", "pipe --folder d --summary"] {
+        let left = run(alloc, line, &input, &made.a, &[])?;
+        assert_eq!(rt; left.exit, 0);
+        assert_eq!(rt;
+            left.out.as_slice(),
+            b"frames 5\ncommits 1\nentries 1 messages 0\n".as_slice()
+        );
+    }
     Ok(())
 }

@@ -63,11 +63,10 @@ fn each_end_keeps_the_replies_before_it(rt: HostRuntime) -> Result<(), Fail> {
 }
 
 // The kind and the body of a frame, and the exit status.
-const KINDS: [(u8, &[u8], u8); 14] = [
+const KINDS: [(u8, &[u8], u8); 13] = [
     (3, b"\x0a\x05\x0a\x03\x02\x61\0", 15),
     (4, b"", 15),
     (8, b"", 15),
-    (9, b"", 15),
     (5, b"\0", 8),
     (6, b"", 8),
     (6, &[0; 11], 8),

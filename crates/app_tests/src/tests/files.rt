@@ -20,7 +20,7 @@ pub(super) struct Left {
 }
 
 // Words, parted by one space each.
-fn words(alloc: Global, line: &str) -> Result<Vec<String>, Fail> {
+pub(super) fn words(alloc: Global, line: &str) -> Result<Vec<String>, Fail> {
     let mut words = Vec::new(alloc);
     for word in line.split(' ') {
         words.push(String::from_str(alloc, word)?)?;

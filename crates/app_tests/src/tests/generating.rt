@@ -61,6 +61,22 @@ fn each_frame_of_a_workload_is_answered_as_done(rt: HostRuntime) -> Result<(), F
     Ok(())
 }
 
+#[test]
+fn a_workload_is_summed(rt: HostRuntime) -> Result<(), Fail> {
+    let alloc = rt.alloc();
+    let mut frames = MemorySink::new(alloc, Vec::new(alloc));
+    let (exit, errors) = generated(alloc, "7", &mut frames)?;
+    assert_eq!(rt; (exit, errors.len()), (0, 0));
+    let mut lines = MemorySink::new(alloc, Vec::new(alloc));
+    let (exit, errors) = run_into(alloc, Ok("pipe --summary"), frames.bytes(), &[], &mut lines)?;
+    assert_eq!(rt; (exit, errors.len()), (0, 0));
+    assert_eq!(rt;
+        lines.bytes(),
+        b"frames 24000\ncommits 16000\nentries 1010 messages 0\n".as_slice()
+    );
+    Ok(())
+}
+
 // The number, the write that fails, and what comes of it: the exit status, the bytes that were written and the error output.
 type End<'a> = (&'a str, u64, u8, usize, &'a [u8]);
 

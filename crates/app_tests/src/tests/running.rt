@@ -1,4 +1,5 @@
 // Runs of the program over bytes in memory.
+use super::files::words;
 use dkv_app::{NoWords, run_program};
 use dkv_files::Pair;
 use dkv_io::{ListRandom, MemorySink, MemorySource, Sink, VoidDisk};
@@ -16,6 +17,11 @@ pub const TAKE: u8 = 5;
 pub const ACKNOWLEDGE: u8 = 6;
 
 pub const FAIL: u8 = 7;
+
+pub const TERM: u8 = 9;
+
+// The reply of status 0 to a frame that has nothing to tell.
+pub const DONE: &[u8] = b"\x01\0\0\0\0";
 
 // A read of the key 02 61 00 alone, and the replies where it has no entry, and 78 of commit 1.
 pub const KEY: &[u8] = b"\x0a\x0d\x0a\x03\x02\x61\0\x12\x04\x02\x61\0\0\x18\x01";
@@ -39,11 +45,11 @@ pub const NOTHING: &[u8] = b"\x09\0\0\0\x06\xff\xff\xff\xff\xff\xff\xff\xff";
 
 pub const NOT_OUT: &[u8] = b"\x01\0\0\0\x07";
 
-/// Runs the program on a word over this input, where the source fails at the calls of these numbers.
+/// Runs the program on words, parted by one space each, over this input, where the source fails at the calls of these numbers.
 /// Gives the exit status and what the error output got.
 pub fn run_into<K: Sink>(
     alloc: Global,
-    word: Result<&str, NoWords>,
+    line: Result<&str, NoWords>,
     input: &[u8],
     source_fails: &[u64],
     sink: &mut K,
@@ -51,8 +57,8 @@ pub fn run_into<K: Sink>(
     let mut source = MemorySource::new(input.to_vec(alloc)?, source_fails.to_vec(alloc)?);
     let mut errors = MemorySink::new(alloc, Vec::new(alloc));
     let mut random = ListRandom::new(Vec::new(alloc), Vec::new(alloc));
-    let words = match word {
-        Ok(word) => Ok(vec![in alloc; String::from_str(alloc, word)?]?),
+    let words = match line {
+        Ok(line) => Ok(words(alloc, line)?),
         Err(why) => Err(why),
     };
     let files = Some(Pair {

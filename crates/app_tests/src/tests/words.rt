@@ -13,7 +13,7 @@ fn read(alloc: Global, line: &str) -> Result<Result<Command, CommandError>, Fail
     Ok(read_command(alloc, &words))
 }
 
-// A command as a letter, its folder, and its trail's weight or its number.
+// A command as a letter, which is large where a summary is wanted, its folder, and its trail's weight or its number.
 fn seen(command: &Result<Command, CommandError>) -> (u8, &[u8], u64) {
     match command {
         Ok(Command::Create { folder }) => (b'm', folder.as_slice(), 0),
@@ -22,21 +22,27 @@ fn seen(command: &Result<Command, CommandError>) -> (u8, &[u8], u64) {
             Command::Pipe {
                 folder: Some(folder),
                 trail,
+                summary,
             },
-        ) => (b'f', folder.as_slice(), *trail),
+        ) => (
+            if *summary { b'F' } else { b'f' },
+            folder.as_slice(),
+            *trail,
+        ),
         Ok(
             Command::Pipe {
                 folder: None,
                 trail,
+                summary,
             },
-        ) => (b'p', b"", *trail),
+        ) => (if *summary { b'P' } else { b'p' }, b"", *trail),
         Ok(Command::Generate { number }) => (b'g', b"", *number),
         Err(CommandError::BadWords) => (b'b', b"", 0),
         Err(CommandError::NoMemory) => (b'n', b"", 0),
     }
 }
 
-const LINES: [(&str, u8, &[u8], u64); 43] = [
+const LINES: [(&str, u8, &[u8], u64); 59] = [
     ("create d", b'm', b"d", 0),
     ("create --trail", b'm', b"--trail", 0),
     ("check d", b'c', b"d", 0),
@@ -59,7 +65,38 @@ const LINES: [(&str, u8, &[u8], u64); 43] = [
     ("pipe --trail 1000 --trail 1000", b'b', b"", 0),
     ("pipe --folder d --folder d", b'b', b"", 0),
     ("pipe --folder", b'b', b"", 0),
-    ("pipe --summary", b'b', b"", 0),
+    ("pipe --summary", b'P', b"", 268_435_456),
+    ("pipe --summary --folder d", b'F', b"d", 268_435_456),
+    ("pipe --folder d --summary --trail 1000", b'F', b"d", 1000),
+    ("pipe --trail 1000 --folder d --summary", b'F', b"d", 1000),
+    ("pipe --folder --summary", b'f', b"--summary", 268_435_456),
+    (
+        "pipe --summary --folder --summary",
+        b'F',
+        b"--summary",
+        268_435_456,
+    ),
+    (
+        "pipe --folder --summary --summary",
+        b'F',
+        b"--summary",
+        268_435_456,
+    ),
+    ("pipe --summary --summary", b'b', b"", 0),
+    ("pipe --summary --folder d --summary", b'b', b"", 0),
+    ("pipe --summary yes", b'b', b"", 0),
+    ("pipe --summary=1", b'b', b"", 0),
+    ("pipe --Summary", b'b', b"", 0),
+    ("pipe --trail --summary", b'b', b"", 0),
+    ("pipe --folder d --trail 1000 --summary --", b'b', b"", 0),
+    (
+        "pipe --folder d --trail 1000 --folder d --summary",
+        b'b',
+        b"",
+        0,
+    ),
+    ("generate --summary", b'b', b"", 0),
+    ("check --summary d", b'b', b"", 0),
     ("pipe -- --folder d", b'b', b"", 0),
     ("pipe d", b'b', b"", 0),
     ("create", b'b', b"", 0),

@@ -77,7 +77,7 @@ pub(crate) fn file(alloc: Global, fails: &[u64]) -> Result<Quiet, NoMemory> {
 }
 
 // A new database, whose file a fails at these calls.
-fn store(alloc: Global, fails: &[u64]) -> Result<Store<Quiet>, NoMemory> {
+pub(crate) fn store(alloc: Global, fails: &[u64]) -> Result<Store<Quiet>, NoMemory> {
     let pair = Pair {
         a: file(alloc, fails)?,
         b: file(alloc, &[])?,

@@ -7,9 +7,9 @@ returns-in-Ok g c =
     let opening = c.in-Ok.ensures in
     let ran = c.run_pipe-end.ensures in
     inr (over_pipes g.D.Disk.seen g.D.Disk.may_leave g.D.Disk.faults g.D.Disk.moment g.D.Disk.left_since
-    c.of.result c.args.trail c.run_pipe-end.result.0 _ _ _ _ c.args.pair.a c.args.pair.b c.in-Ok.store c.run_pipe-end.result.1 c.close.result.a c.close.result.b
-    c.close.ensures.a c.close.ensures.b c.of.ensures opening.opened opening.begins opening.limited opening.number opening.told opening.later opening.moves_ok
-    ran.run ran.cause ran.complete c.is_kept.ensures.stands)
+    c.of.result c.args.trail c.args.summary c.run_pipe-end.result.0 _ _ _ _ c.args.pair.a c.args.pair.b c.in-Ok.store c.run_pipe-end.result.1 c.close.result.a c.close.result.b
+    c.close.ensures.a c.close.ensures.b c.of.ensures opening.opened opening.begins opening.limited opening.number c.is_kept.ensures.kept.sound opening.told opening.later opening.moves_ok
+    ran.run ran.cause ran.complete c.is_kept-in-Ok.ensures.stands)
 
 pub returns-in-Err : goal.returns-in-Err
 returns-in-Err g c = inl (record {

@@ -1,46 +1,18 @@
-use Rattle.std.proofs.Common.{List, set, refl, ap, ◌∙◌}
-use Rattle.std.specs.Prelude.{position}
-use Rattle.dkv_hub.specs.Rows.{rows_without}
+use Rattle.std.proofs.Common.{sym, ap, ◌∙◌, Ok}
+use Rattle.std.specs.declared.option.Option.{Option}
+use Rattle.dkv_hub.specs.Rows.{Watch}
 use Rattle.dkv_core.specs.Cores.{Database}
-use Rattle.dkv_core.specs.Seats.{is_seat_of, rows_beside}
-use Rattle.dkv_core.specs.declared.seats.Seat.{Seat}
-use Rattle.dkv_core.proofs.Seated.{IsPlace, none_placed, place_found, seated_set, seated_push}
-use Rattle.dkv_core.proofs.SeatRows.{beside_ended, beside_pushed, beside_replaced}
+use Rattle.dkv_core.specs.Seats.{rows_after, rows_beside}
 use Rattle.dkv_core.proofs.machine.Core.seat.Goals as goal
 
-pub returns-in-Some-clause-anew : goal.returns-in-Some-clause-anew
-returns-in-Some-clause-anew c =
-    let seats : List Seat = c.args.seats.now.items in
-    let who = c.args.seat.who in
-    let i = c.in-Some.place in
-    let there : IsPlace who seats i = place_found who seats i (c.in-Some.ensures ∙ ap (λ ss. position (is_seat_of who) ss) c.as_slice.ensures.value) in
-    rw c.replace-watcher.ensures.after (seated_set who seats i c.args.seat c.index_mut.result.now there c.index_mut.ensures.value refl)
-
-pub returns-in-Some-clause-watches : goal.returns-in-Some-clause-watches
-returns-in-Some-clause-watches c = λ before is.
-    let seats : List Seat = c.args.seats.now.items in
-    let who = c.args.seat.who in
-    let i = c.in-Some.place in
-    let there : IsPlace who seats i = place_found who seats i (c.in-Some.ensures ∙ ap (λ ss. position (is_seat_of who) ss) c.as_slice.ensures.value) in
-    let old : Seat = c.index_mut.result.now in
+pub returns-in-Ok-None-clause-watches : goal.returns-in-Ok-None-clause-watches
+returns-in-Ok-None-clause-watches c = λ before is.
     let rows = c.args.self.now.watches in
-    let gone = ap (λ (v : Database). v.watches) c.unwatch.ensures ∙ ap (λ (o : Seat). rows_without o.watcher.number o.watcher.keys rows) c.replace-watcher.ensures.value in
-    rw c.replace-watcher.ensures.after (ap (λ rs. rows_beside (set seats i c.args.seat) rs) gone
-    ∙ beside_replaced before rows seats i c.args.seat old there.within c.index_mut.ensures.value is)
+    sym (ap (λ (o : Option Watch). rows_beside c.sit.new.seats.items (rows_after (Ok o) rows)) c.in-Ok-None.field-0-is) ∙ c.in-Ok-None.ensures.rows before rows is
 
-pub returns-in-Ok-clause-anew : goal.returns-in-Ok-clause-anew
-returns-in-Ok-clause-anew c =
-    let seats : List Seat = c.args.seats.now.items in
-    let who = c.args.seat.who in
-    let none = none_placed who seats (c.in-None.ensures ∙ ap (λ ss. position (is_seat_of who) ss) c.as_slice.ensures.value) in
-    rw c.in-Ok.ensures.items (seated_push who seats c.args.seat none refl)
-
-pub returns-in-Ok-clause-watches : goal.returns-in-Ok-clause-watches
-returns-in-Ok-clause-watches c = λ before is.
-    rw c.in-Ok.ensures.items (beside_pushed before c.args.self.now.watches c.args.seats.now.items c.args.seat is)
-
-pub returns-in-Err-clause-watches : goal.returns-in-Err-clause-watches
-returns-in-Err-clause-watches c = λ before is.
+pub returns-in-Ok-Some-clause-watches : goal.returns-in-Ok-Some-clause-watches
+returns-in-Ok-Some-clause-watches c = λ before is.
     let rows = c.args.self.now.watches in
-    let gone = ap (λ (v : Database). v.watches) c.unwatch-in-Err.ensures ∙ ap (λ (o : Seat). rows_without o.watcher.number o.watcher.keys rows) c.in-Err.ensures.value_returned in
-    rw c.in-Err.ensures.items (ap (λ rs. rows_beside c.args.seats.now.items rs) gone ∙ beside_ended before rows c.args.seats.now.items c.args.seat is)
+    ap (λ (v : Database). rows_beside c.sit.new.seats.items v.watches) c.unwatch.ensures
+    ∙ sym (ap (λ (o : Option Watch). rows_beside c.sit.new.seats.items (rows_after (Ok o) rows)) c.in-Ok-Some.field-0-is)
+    ∙ c.in-Ok-Some.ensures.rows before rows is

@@ -1,6 +1,8 @@
-use Rattle.std.proofs.Common.{arith}
+use Rattle.std.proofs.Common.{ap, arith}
+use Rattle.dkv_io.proofs.Seen.{told_same}
 use Rattle.dkv_store.specs.Stores.{effective_at}
 use Rattle.dkv_store.proofs.Answering.{call_answers}
+use Rattle.dkv_store.proofs.Turning.{told_both, later_both}
 use Rattle.dkv_store.proofs.Leading.{commit_leads}
 use Rattle.dkv_store.proofs.store.Store.commit.Goals as goal
 
@@ -11,6 +13,20 @@ returns-clause-steps g c =
 
 pub returns-clause-goes : goal.returns-clause-goes
 returns-clause-goes g c =
-    commit_leads g.D.Disk.seen g.D.Disk.may_leave g.D.Disk.moment g.D.Disk.left_since c.args.self.now c.commit_kept-done.new.self c.commit_kept-done.ensures.first
-    c.args.who (effective_at c.args.self.now c.args.at) c.args.call (omega arith) c.commit_kept-done.ensures.other c.is_kept.ensures.kept.state c.is_kept-2.ensures.kept.state
-    c.commit_kept-done.ensures.moves c.commit_kept-done.ensures.told c.commit_kept-done.result c.commit_kept-done.ensures.answer c.commit_kept-done.ensures.doubted
+    let old = c.args.self.now in
+    let new = c.commit_kept-done.new.self in
+    let came = c.commit_kept-done.ensures in
+    let told = told_both g.D.Disk.seen g.D.Disk.faults old new (ap (λ u. u.second) came.in_use) came.told (told_same _ _ (ap g.D.Disk.seen came.other)) in
+    commit_leads g.D.Disk.seen g.D.Disk.may_leave g.D.Disk.moment g.D.Disk.left_since old new
+    c.args.who (effective_at old c.args.at) c.args.call
+    came.moves told c.commit_kept-done.result came.answer came.doubted
+
+pub returns-clause-told : goal.returns-clause-told
+returns-clause-told g c =
+    let came = c.commit_kept-done.ensures in
+    told_both g.D.Disk.seen g.D.Disk.faults c.args.self.now c.commit_kept-done.new.self (ap (λ u. u.second) came.in_use) came.told (told_same _ _ (ap g.D.Disk.seen came.other))
+
+pub returns-clause-later : goal.returns-clause-later
+returns-clause-later g c =
+    let came = c.commit_kept-done.ensures in
+    later_both g.D.Disk.seen g.D.Disk.faults c.args.self.now c.commit_kept-done.new.self (ap (λ u. u.second) came.in_use) came.later (let same = ap g.D.Disk.faults came.other in omega (arith, same))

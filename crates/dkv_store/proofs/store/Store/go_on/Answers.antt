@@ -1,33 +1,27 @@
-use Rattle.std.proofs.Common.{◌≡◌, ◌∙◌, sym, ap, subst, arith}
+use Rattle.std.proofs.Common.{◌≡◌, ◌∙◌, refl, sym, ap, subst, arith}
 use Rattle.std.specs.Prelude.{option_map}
-use Rattle.dkv_base.specs.declared.types.Commit.{Commit}
 use Rattle.dkv_base.specs.declared.types.Profile.TheVariants.{Narrow}
 use Rattle.dkv_base.specs.Sound.{IsSound}
 use Rattle.dkv_base.specs.State.{State}
-use Rattle.dkv_core.specs.Cores.{Database}
 use Rattle.dkv_files.specs.Crashes.{Identity}
-use Rattle.dkv_store.specs.Held.{Hold, Guarded}
+use Rattle.dkv_store.specs.Held.{Hold, Guarded, picked}
 use Rattle.dkv_store.specs.Stores.{Contents, Keeps}
-use Rattle.dkv_store.specs.declared.recall.Recall.{Recall}
-use Rattle.dkv_store.proofs.Keeping.{kept_sound}
-use Rattle.dkv_store.proofs.Results.{named_by}
+use Rattle.dkv_store.proofs.Keeping.{kept_begun, kept_sound}
 use Rattle.dkv_store.proofs.store.Store.go_on.Goals as goal
 
-pub begin-requires-clause-sound : goal.begin-requires-clause-sound
-begin-requires-clause-sound g c =
-    let kept = subst (λ (s : Contents g.row.D.Denot). Keeps g.D.Disk.seen g.D.Disk.may_leave g.D.Disk.faults c.self.inside.files.journal s) c.self.view_is c.self.invariant in
-    subst IsSound (sym c.requires.renewed.state) (kept_sound g.D.Disk.seen g.D.Disk.may_leave g.D.Disk.faults c.self.inside.files.journal c.args.self kept)
-
-pub begin-requires-clause-late : goal.begin-requires-clause-late
-begin-requires-clause-late g c = let same = ap (λ (s : State). s.moment) c.requires.renewed.state in omega (arith, same, c.requires.renewed.greatest)
-
-pub begin-requires-clause-named : goal.begin-requires-clause-named
-begin-requires-clause-named g c = named_by (λ (d : Recall Commit). d.value) _ c.self.inside.files.doubt c.self.invariant.named
-
-pub begin-requires-clause-stands : goal.begin-requires-clause-stands
-begin-requires-clause-stands g c fa told =
+pub invariant_of-self : goal.invariant_of-self
+invariant_of-self g c =
     let i = c.self.inside in
-    let p = i.files.pair in
+    let p = i.files in
+    let renewed = c.requires.renewed in
     let me : Identity = record { id = i.id; secret = i.secret; profile = Narrow } in
-    subst (λ (s : State). Hold (g.D.Disk.may_leave p.a) (Guarded (g.D.Disk.seen p.b) (g.D.Disk.may_leave p.b)) i.files.journal (option_map (λ d. d.value) i.files.doubt) s me)
-    (sym (c.requires.renewed.state ∙ sym (ap (λ (s : Contents g.row.D.Denot). s.core.state) c.self.view_is))) (c.self.invariant.stands fa told)
+    let kept = subst (λ (s : Contents g.row.D.Denot). Keeps g.D.Disk.seen g.D.Disk.may_leave g.D.Disk.faults i.files.journal p.used p.other s) c.self.view_is c.self.invariant in
+    let moment = ap (λ (s : State). s.moment) renewed.state in
+    kept_begun g.D.Disk.seen g.D.Disk.may_leave g.D.Disk.faults i.files.journal p.used p.other _
+    (subst IsSound (sym renewed.state) (kept_sound g.D.Disk.seen g.D.Disk.may_leave g.D.Disk.faults i.files.journal p.used p.other c.args.self.now kept))
+    renewed.out (omega (arith, moment, renewed.greatest)) c.self.invariant.named
+    (ap (λ w. w.state) c.of.ensures) (ap (λ t. t.items) c.replace.ensures.after ∙ c.new.ensures.items)
+    (ap (λ f. picked f.in_use.second f.used f.other) c.of-2.ensures) (ap (λ f. picked f.in_use.second f.other f.used) c.of-2.ensures) refl refl
+    (λ fa told.
+    subst (λ (s : State). Hold (g.D.Disk.may_leave p.used) (Guarded (g.D.Disk.seen p.other) (g.D.Disk.may_leave p.other)) i.files.journal p.in_use (option_map (λ d. d.value) i.files.doubt) s me)
+    (sym (renewed.state ∙ sym (ap (λ (s : Contents g.row.D.Denot). s.core.state) c.self.view_is))) (c.self.invariant.stands fa told))

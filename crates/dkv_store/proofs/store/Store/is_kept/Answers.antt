@@ -5,5 +5,5 @@ use Rattle.dkv_store.proofs.store.Store.is_kept.Goals as goal
 
 pub returns-clause-stands : goal.returns-clause-stands
 returns-clause-stands g c fa fb told_a told_b =
-    let kept = subst (λ (s : Contents g.row.D.Denot). Keeps g.D.Disk.seen g.D.Disk.may_leave g.D.Disk.faults c.self.inside.files.journal s) c.self.view_is c.self.invariant in
-    keeps_stand g.D.Disk.seen g.D.Disk.may_leave g.D.Disk.faults c.self.inside.files.journal c.args.self.now kept fa fb told_a told_b
+    let kept = subst (λ (s : Contents g.row.D.Denot). Keeps g.D.Disk.seen g.D.Disk.may_leave g.D.Disk.faults c.self.inside.files.journal c.self.inside.files.used c.self.inside.files.other s) c.self.view_is c.self.invariant in
+    keeps_stand g.D.Disk.seen g.D.Disk.may_leave g.D.Disk.faults c.self.inside.files.journal c.self.inside.files.used c.self.inside.files.other c.args.self.now kept fa fb told_a told_b

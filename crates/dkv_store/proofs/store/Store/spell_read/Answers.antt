@@ -1,4 +1,3 @@
-use Rattle.std.proofs.Common.{arith}
 use Rattle.dkv_store.specs.Stores.{effective_at}
 use Rattle.dkv_store.proofs.Taking.{read_answers}
 use Rattle.dkv_store.proofs.Leading.{read_leads}
@@ -10,4 +9,4 @@ returns-clause-steps g c who =
 
 pub returns-clause-goes : goal.returns-clause-goes
 returns-clause-goes g c =
-    read_leads g.D.Disk.seen g.D.Disk.may_leave g.D.Disk.moment g.D.Disk.left_since c.args.self.now c.spell_kept.new.self (effective_at c.args.self.now c.args.at) (omega arith) c.spell_kept.ensures.content
+    read_leads g.D.Disk.seen g.D.Disk.may_leave g.D.Disk.moment g.D.Disk.left_since c.args.self.now c.spell_kept.new.self (effective_at c.args.self.now c.args.at) c.spell_kept.ensures.content

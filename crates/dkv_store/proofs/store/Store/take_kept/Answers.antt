@@ -8,6 +8,7 @@ use Rattle.dkv_base.specs.Trails.{weight}
 use Rattle.dkv_core.specs.Takes.{IsFirst, IsTaken}
 use Rattle.dkv_core.specs.declared.takes.Taken.TheVariants as taken
 use Rattle.dkv_files.specs.Crashes.{Identity}
+use Rattle.dkv_store.specs.Held.{picked}
 use Rattle.dkv_store.specs.Stores.{Contents, effective_at}
 use Rattle.dkv_store.proofs.Keeping.{kept_took}
 use Rattle.dkv_store.proofs.store.Store.take_kept.Goals as goal
@@ -25,7 +26,8 @@ invariant_of-self-2 g c =
       record { state = ap (λ w. w.state) c.raise-2.ensures ∙ c.lease.ensures.state; greatest = ap (λ w. w.greatest) c.raise-2.ensures },
     ) in
     kept_took g.D.Disk.seen g.D.Disk.may_leave g.D.Disk.faults i.files.journal i.base.value.state i.core d i.trail.items c.add_taken.new.self.items i.trail.roomless c.add_taken.new.self.roomless
-    (option_map (λ d. d.value) i.files.doubt) me i.limit i.record_bytes i.files.pair.a i.files.pair.b i.first.value.a i.first.value.b c.self.invariant
+    (option_map (λ d. d.value) i.files.doubt) me i.limit i.record_bytes i.files.in_use i.files.used i.files.other
+    (picked i.first.value.in_use.second i.first.value.used i.first.value.other) (picked i.first.value.in_use.second i.first.value.other i.first.value.used) c.self.invariant
     c.args.who t m c.moment-at.ensures.effective.late is c.in_ok-add_taken.ensures.items
     (c.passes.ensures.within (item.Took c.args.who t m.id) refl c.if-passes.false)
 
@@ -54,6 +56,7 @@ returns-then-passes-clause-refused g c =
         who = ap (λ s. s.who) c.self.view_is;
         limit = ap (λ s. s.limit) c.self.view_is;
         record_bytes = ap (λ s. s.record_bytes) c.self.view_is;
+        in_use = ap (λ s. s.in_use) c.self.view_is;
         a = ap (λ s. s.a) c.self.view_is;
         b = ap (λ s. s.b) c.self.view_is;
       },

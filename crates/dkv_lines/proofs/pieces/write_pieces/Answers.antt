@@ -1,5 +1,5 @@
-use Rattle.dkv_app.proofs.PieceLists.{front_of_pieces}
-use Rattle.dkv_app.proofs.pieces.write_pieces.Goals as goal
+use Rattle.dkv_lines.proofs.PieceLists.{front_of_pieces}
+use Rattle.dkv_lines.proofs.pieces.write_pieces.Goals as goal
 
 pub returns-in-Err-clause-front : goal.returns-in-Err-clause-front
 returns-in-Err-clause-front g c =

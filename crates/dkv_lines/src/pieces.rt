@@ -8,7 +8,7 @@ ghost use Rattle.dkv_io.specs.Streams.{AppendsFront};
 use dkv_io::{Failed, Sink};
 
 /// Writes the pieces, without memory.
-pub(crate) fn write_pieces<K: Sink>(sink: &mut K, pieces: &[&[u8]]) -> Result<(), Failed>
+pub fn write_pieces<K: Sink>(sink: &mut K, pieces: &[&[u8]]) -> Result<(), Failed>
     ensures all { OnOk result (Appends (K.held sink.old) (K.held sink.new)
         (flat_map (λ piece. piece.now) pieces.now)) }
     ensures front { OnErr result (AppendsFront (K.held sink.old) (K.held sink.new)
