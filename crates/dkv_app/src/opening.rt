@@ -1,5 +1,5 @@
 // Two files are opened for a command, or a status says why not.
-ghost use Rattle.std.specs.Prelude.{◌≡◌, ◌<◌, ◌≤◌, ◌^◌, IfOk, IfErr};
+ghost use Rattle.std.specs.Prelude.{◌≡◌, ◌<◌, ◌≤◌, ◌^◌, IfOk, IfErr, []};
 ghost use Rattle.dkv_files.specs.Crashes.{WhereBothTold, WritesNothing};
 ghost use Rattle.dkv_store.specs.Stores.{IsOpened};
 ghost use Rattle.dkv_app.specs.Checking.{OpenCause, Unopens};
@@ -24,6 +24,7 @@ pub(crate) fn open<D: Disk>(
         (IsOpened D.may_leave fa fb)) }
     ensures begins { IfOk result (λ s. s.core.greatest ≡ s.base.moment) }
     ensures limited { IfOk result (λ s. s.limit ≡ trail) }
+    ensures empty { IfOk result (λ s. s.trail ≡ []) }
     ensures number { IfOk result (λ s. s.core.state.number < 2 ^ 62) }
     ensures told { IfOk result (λ s. (D.seen s.a ≡ D.seen pair.a)
         × (D.seen s.b ≡ D.seen pair.b)) }

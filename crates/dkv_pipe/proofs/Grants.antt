@@ -107,7 +107,7 @@ module _ {D : Type 0} (seen : D → Option (List ℕ)) (images : D → List ℕ 
       → Grants seen images faults moment since s (asks (ask.Write w)) who at out s
   write_limited_granted s who at w passed out none is told =
       refused_granted s (ask.Write w) who at (answer.Limit passed) out refl refl
-      (λ t stands. limit_reply s s none t who (effective t at) w passed (is Narrow) stands) told
+      (λ t stands. limit_reply s s t who (effective t at) w passed (is Narrow) stands) told
 
   -- the same of a body that was read
   pub write_refused : (s : Contents D) (body : List ℕ) (who at : ℕ) (passed : Limit) (out : List ℕ) → first_stop s.trail ≡ None

@@ -1,5 +1,6 @@
 // The reply to each frame, and what it changes in the store.
 ghost use Rattle.std.specs.Prelude.{◌≡◌, ◌-◌, ◌^◌, ◌<◌, ◌≤◌, ℕ, None, length, IfOk, IsErrOf, IsTrue, OnErr, false};
+ghost use Rattle.dkv_base.specs.Trails.{first_stop};
 ghost use Rattle.dkv_base.specs.declared.types.Ask.TheVariants.{Read, Write, Take};
 ghost use Rattle.dkv_base.specs.Fits.{AreBytes};
 ghost use Rattle.dkv_core.specs.Decisions.{may_ask};
@@ -58,6 +59,7 @@ fn read_ranges<D: Disk>(
         store.old (asks (Read ranges.now)) who moment out store.new) }
     ensures none { OnErr result
         (IsRefusedFor D.seen D.may_leave D.moment D.left_since store.old moment store.new) }
+    ensures unstopped { first_stop store.old.trail ≡ None → first_stop store.new.trail ≡ None }
 {
     if let Some(passed) = read_limits(ranges) {
         return Ok(limited(alloc, passed));
@@ -77,6 +79,7 @@ fn answer_read<D: Disk>(
         store.old (wish_of_read Read (readings.read_of body.now)) who moment out store.new) }
     ensures none { OnErr result
         (IsRefusedFor D.seen D.may_leave D.moment D.left_since store.old moment store.new) }
+    ensures unstopped { first_stop store.old.trail ≡ None → first_stop store.new.trail ≡ None }
 {
     match request_snapshot_read(alloc, body) {
         Ok(request) => read_ranges(store, alloc, moment, request.ranges.as_slice()),
@@ -94,6 +97,7 @@ fn make<D: Disk>(
     moment: u64,
     call: Call,
 ) -> Result<Reply, NoMemory>
+    requires unstopped { first_stop store.old.trail ≡ None }
     requires numbered { store.old.core.state.number < 2 ^ 63 - 1 }
     requires out { IsTrue (may_ask store.old.core call) }
     requires short { IsShort store.old who (effective_at store.old moment) call }
@@ -102,6 +106,7 @@ fn make<D: Disk>(
         store.old (asks (ask_of call)) who moment out store.new) }
     ensures none { OnErr result
         (IsRefusedFor D.seen D.may_leave D.moment D.left_since store.old moment store.new) }
+    ensures unstopped { first_stop store.old.trail ≡ None → first_stop store.new.trail ≡ None }
 {
     store.is_kept();
     let writes = is_write(&call);
@@ -117,6 +122,7 @@ fn answer_call<D: Disk>(
     moment: u64,
     call: Call,
 ) -> Result<Reply, NoMemory>
+    requires unstopped { first_stop store.old.trail ≡ None }
     requires numbered { store.old.core.state.number < 2 ^ 63 - 1 }
     requires short { IsShort store.old who (effective_at store.old moment) call }
     ensures reply { IfOk result (λ out.
@@ -124,6 +130,7 @@ fn answer_call<D: Disk>(
         store.old (asks (ask_of call)) who moment out store.new) }
     ensures none { OnErr result
         (IsRefusedFor D.seen D.may_leave D.moment D.left_since store.old moment store.new) }
+    ensures unstopped { first_stop store.old.trail ≡ None → first_stop store.new.trail ≡ None }
 {
     if store.may_ask(&call) {
         make(store, alloc, who, moment, call)
@@ -147,6 +154,7 @@ fn answer_write<D: Disk>(
     moment: u64,
     body: &[u8],
 ) -> Result<Reply, NoMemory>
+    requires unstopped { first_stop store.old.trail ≡ None }
     requires numbered { store.old.core.state.number < 2 ^ 63 - 1 }
     requires fits { length body.now ≤ MAX_REQUEST_BYTES }
     ensures reply { IfOk result (λ out.
@@ -154,6 +162,7 @@ fn answer_write<D: Disk>(
         store.old (wish_of_read Write (readings.write_of body.now)) who moment out store.new) }
     ensures none { OnErr result
         (IsRefusedFor D.seen D.may_leave D.moment D.left_since store.old moment store.new) }
+    ensures unstopped { first_stop store.old.trail ≡ None → first_stop store.new.trail ≡ None }
 {
     requests_fit();
     are_bytes(body);
@@ -175,11 +184,13 @@ fn answer_take<D: Disk>(
     who: u32,
     moment: u64,
 ) -> Result<Reply, NoMemory>
+    requires unstopped { first_stop store.old.trail ≡ None }
     ensures reply { IfOk result (λ out.
         Grants D.seen D.may_leave D.faults D.moment D.left_since
         store.old (asks Take) who moment out store.new) }
     ensures none { OnErr result
         (IsRefusedFor D.seen D.may_leave D.moment D.left_since store.old moment store.new) }
+    ensures unstopped { first_stop store.old.trail ≡ None → first_stop store.new.trail ≡ None }
 {
     store.is_kept();
     let came = store.take(alloc, who, moment);
@@ -193,6 +204,7 @@ fn answer_term<D: Disk>(store: &mut Store<D>, alloc: Global) -> Result<Reply, No
         store.old term who at out store.new) }
     ensures none { OnErr result ((at : ℕ) →
         IsRefusedFor D.seen D.may_leave D.moment D.left_since store.old at store.new) }
+    ensures unstopped { first_stop store.old.trail ≡ None → first_stop store.new.trail ≡ None }
 {
     let limit = store.limit();
     match store.start_term(alloc, limit) {
@@ -210,6 +222,7 @@ pub(crate) fn answer<D: Disk>(
     head: Head,
     body: &[u8],
 ) -> Result<Reply, Unanswered>
+    requires unstopped { first_stop store.old.trail ≡ None }
     requires numbered { store.old.core.state.number < 2 ^ 63 - 1 }
     requires fits { IsTrue (is_body_length head.kind (length body.now)) }
     ensures ok { IfOk result (λ out. Answers D.seen D.may_leave D.faults D.moment D.left_since
@@ -219,6 +232,7 @@ pub(crate) fn answer<D: Disk>(
     ensures none { IsErrOf result Unanswered.NoMemory
         → IsRefusedFor D.seen D.may_leave D.moment D.left_since
         store.old head.moment store.new }
+    ensures unstopped { first_stop store.old.trail ≡ None → first_stop store.new.trail ≡ None }
 {
     let (who, moment) = (head.caller, head.moment);
     match head.kind {

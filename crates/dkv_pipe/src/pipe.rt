@@ -1,5 +1,6 @@
 // Runs over frames: read, answer, write, and how that may end.
-ghost use Rattle.std.specs.Prelude.{◌≡◌, ◌⊎◌, ◌<◌, ◌≤◌, ◌+◌, ◌^◌, List, ℕ, length, ⊤, Bool, false, not, OnOk, OnErr};
+ghost use Rattle.dkv_base.specs.Trails.{first_stop};
+ghost use Rattle.std.specs.Prelude.{None, ◌≡◌, ◌⊎◌, ◌<◌, ◌≤◌, ◌+◌, ◌^◌, List, ℕ, length, ⊤, Bool, false, not, OnOk, OnErr};
 ghost use Rattle.std.specs.declared.option.Option.{Option};
 ghost use Rattle.dkv_io.specs.Causes.{HasCause, Rose};
 ghost use Rattle.dkv_store.specs.Stores.{Contents};
@@ -138,6 +139,7 @@ impl<D: Disk> Pipe<D> {
         requires early { self.old.at < MAX_PLACE }
         requires number { IsEarlyNumber self.old.store.core.state.number self.old.at }
         requires few { self.old.frames ≤ self.old.at }
+        requires unstopped { first_stop self.old.store.trail ≡ None }
         ensures run { (from : Contents D) (before : Streams)
             (left : Option (List ℕ)) (ended : Bool) →
             let old = streams left ended (K.held sink.old) in
@@ -157,6 +159,7 @@ impl<D: Disk> Pipe<D> {
             (IsEarlyNumber self.new.store.core.state.number self.new.at)
             (λ _. ⊤) }
         ensures few { OnOrEnds result (self.new.frames ≤ self.new.at) (λ _. ⊤) }
+        ensures unstopped { OnOrEnds result (first_stop self.new.store.trail ≡ None) (λ _. ⊤) }
         ensures len { OnOrEnds result
             (length self.new.input + head.len ≡ length self.old.input)
             (λ _. ⊤) }
@@ -189,6 +192,7 @@ impl<D: Disk> Pipe<D> {
     ) -> Progress
         requires number { IsEarlyNumber self.old.store.core.state.number self.old.at }
         requires few { self.old.frames ≤ self.old.at }
+        requires unstopped { first_stop self.old.store.trail ≡ None }
         ensures run { (from : Contents D) (before : Streams) →
             let old = streams (S.left source.old) (S.ended source.old) (K.held sink.old) in
             let new = streams (S.left source.new) (S.ended source.new) (K.held sink.new) in
@@ -208,6 +212,7 @@ impl<D: Disk> Pipe<D> {
             (IsEarlyNumber self.new.store.core.state.number self.new.at)
             (λ _. ⊤) }
         ensures few { OnOrEnds result (self.new.frames ≤ self.new.at) (λ _. ⊤) }
+        ensures unstopped { OnOrEnds result (first_stop self.new.store.trail ≡ None) (λ _. ⊤) }
         ensures progress { OnOrEnds result
             (to_do self.new.at (length self.new.input) < to_do self.old.at (length self.old.input))
             (λ _. ⊤) }
@@ -233,7 +238,8 @@ pub fn run_pipe<S: Source, K: Sink, D: Disk>(
     store: Store<D>,
     summary: bool,
 ) -> (PipeEnd, Store<D>)
-    requires { store.core.state.number < 2 ^ 62 }
+    requires few { store.core.state.number < 2 ^ 62 }
+    requires unstopped { first_stop store.trail ≡ None }
     // What was read, answered and written, as far as source and sink tell it, and where that leads.
     ensures run { RunsTo D.seen D.may_leave D.faults D.moment D.left_since summary result.0
         (streams (S.left source.old) (S.ended source.old) (K.held sink.old))

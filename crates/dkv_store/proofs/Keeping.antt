@@ -30,8 +30,8 @@ use Rattle.dkv_files.specs.Crashes.{Identity, and_then}
 use Rattle.dkv_store.specs.declared.held.InUse.{InUse}
 use Rattle.dkv_store.specs.Held.{Hold, Guarded, picked}
 use Rattle.dkv_store.specs.Stores.{Contents, Keeps, IsWithinRise, is_doubt}
-use Rattle.dkv_store.specs.Trails.{FitsIn}
-use Rattle.dkv_store.proofs.Trailing.{legal_parts, count_push, leased_doubt, leased_made, legal_doubt, legal_made, state_made, unstopped_on, moments_on, leased_took, legal_took, next_same}
+use Rattle.dkv_store.specs.Trails.{FindsNoStop, FitsIn}
+use Rattle.dkv_store.proofs.Trailing.{legal_parts, count_push, leased_doubt, leased_made, legal_doubt, legal_made, legal_stop, leased_stop, state_made, moments_on, leased_took, legal_took, next_same}
 
 made_at : (who t : ℕ) (a : Call) → moment_of (commit_of who t a) ≡ t
 made_at who t (call.Write w) = refl
@@ -121,7 +121,6 @@ module _ {D : Type 0} (sees : D → Option (List ℕ)) (images : D → List ℕ 
         state = state ∙ kept.state ∙ ap (after base) (sym (commits-push trail x ∙ append-nil (commits trail)));
         legal = legal_doubt base limit trail kept.legal who t late;
         leased = λ k. ap (is_out k) out_is ∙ leased_doubt base trail core.out kept.leased who t k;
-        unstopped = unstopped_on trail x refl kept.unstopped;
         moments = moments_on base trail x core_end.greatest (omega (arith, greatest_is));
         doubts = subst (Rises (count_by is_doubt (trail ++ x ∷ []))) (sym turned) (doubt_rises faults u.second (count_by is_doubt trail) (count_by is_doubt (trail ++ x ∷ [])) (faults a_first) (faults b_first) used used_end other other_end later later_other (omega (arith, counted)) rose kept.doubts);
         named = named;
@@ -131,9 +130,9 @@ module _ {D : Type 0} (sees : D → Option (List ℕ)) (images : D → List ℕ 
       })
 
   -- after a commit it is in the state and in the trail
-  pub kept_made : core_end.state ≡ applied p core.state → core_end.out ≡ out_after p.settled core.out → core_end.greatest ≡ p.moment → trail_end ≡ trail ++ item.Made (commit_of who t asked) ∷ [] → FitsIn limit trail (commit_of who t asked)
+  pub kept_made : core_end.state ≡ applied p core.state → core_end.out ≡ out_after p.settled core.out → core_end.greatest ≡ p.moment → trail_end ≡ trail ++ item.Made (commit_of who t asked) ∷ [] → FindsNoStop asked trail → FitsIn limit trail (commit_of who t asked)
       → ((file : List ℕ) → sees used_end ≡ Some file → HoldsIn (and_then core.state (commit_of who t asked))) → Kept trail_end
-  kept_made state out_is greatest_is trail_is fits stands =
+  kept_made state out_is greatest_is trail_is unstopped fits stands =
       let x = item.Made (commit_of who t asked) in
       let counted = count_push is_doubt trail x in
       let at = made_at who t asked in
@@ -142,9 +141,8 @@ module _ {D : Type 0} (sees : D → Option (List ℕ)) (images : D → List ℕ 
       subst Kept (sym trail_is) (record {
         sound = kept.sound;
         state = state ∙ goes.makes ∙ ap (λ (s : State). after s (commit_of who t asked ∷ [])) kept.state ∙ sym (state_made base limit trail kept.legal kept.sound who t asked free late);
-        legal = legal_made base limit trail kept.legal kept.sound who t asked free late kept.unstopped core.out kept.leased held fits;
+        legal = legal_made base limit trail kept.legal kept.sound who t asked free late unstopped core.out kept.leased held fits;
         leased = λ k. ap (is_out k) (out_is ∙ ap (λ (o : Option Settled). out_after o core.out) goes.settles) ∙ leased_made base trail core.out kept.leased asked who t k;
-        unstopped = unstopped_on trail x refl kept.unstopped;
         moments = moments_on base trail x core_end.greatest (omega (arith, greatest_is, goes.moment, at));
         doubts = subst (Rises (count_by is_doubt (trail ++ x ∷ []))) (sym turned) (rises_on faults u.second (count_by is_doubt trail) (count_by is_doubt (trail ++ x ∷ [])) (faults a_first) (faults b_first) used used_end other other_end later later_other (omega (arith, counted)) kept.doubts);
         named = named;
@@ -188,8 +186,8 @@ module _ {D : Type 0} (sees : D → Option (List ℕ)) (images : D → List ℕ 
     b_first = b_first;
   })
 
-  pub kept_took : (who t : ℕ) (m : Message) → core.greatest ≤ t → IsTaken core t (taken.Leased m) core_end → trail_end ≡ trail ++ item.Took who t m.id ∷ [] → weight (trail ++ item.Took who t m.id ∷ []) ≤ limit → Taking trail_end
-  kept_took who t m late is trail_is fits =
+  pub kept_took : (who t : ℕ) (m : Message) → first_stop trail ≡ None → core.greatest ≤ t → IsTaken core t (taken.Leased m) core_end → trail_end ≡ trail ++ item.Took who t m.id ∷ [] → weight (trail ++ item.Took who t m.id ∷ []) ≤ limit → Taking trail_end
+  kept_took who t m unstopped late is trail_is fits =
       let x = item.Took who t m.id in
       let state = is.2.state in
       let at = is.2.greatest in
@@ -198,9 +196,28 @@ module _ {D : Type 0} (sees : D → Option (List ℕ)) (images : D → List ℕ 
       subst Taking (sym trail_is) (record {
         sound = kept.sound;
         state = state ∙ kept.state ∙ ap (after base) (sym (commits-push trail x ∙ append-nil (commits trail)));
-        legal = legal_took base limit trail kept.legal who t m (omega (arith, kept.moments, late)) kept.unstopped due fits;
+        legal = legal_took base limit trail kept.legal who t m (omega (arith, kept.moments, late)) unstopped due fits;
         leased = λ k. is.1 k ∙ leased_took base trail core.out kept.leased who t m.id k;
-        unstopped = unstopped_on trail x refl kept.unstopped;
+        moments = moments_on base trail x core_end.greatest (omega (arith, at));
+        doubts = λ low_a low_b. let before = kept.doubts low_a low_b in omega (arith, before, counted);
+        named = kept.named;
+        a_is = refl;
+        b_is = refl;
+        stands = λ file told. subst (λ (s : State). Hold (images used) (Guarded (sees other) (images other)) j u doubt s me) (sym state) (kept.stands file told);
+      })
+
+  -- after a stop its item stands in the trail, and the moment is raised
+  pub kept_stopped : (who t : ℕ) (last : Bool) → core.greatest ≤ t → core_end ≡ record core { greatest = t } → trail_end ≡ trail ++ item.Stop who t last ∷ [] → Taking trail_end
+  kept_stopped who t last late is trail_is =
+      let x = item.Stop who t last in
+      let state = ap (λ (d : Database). d.state) is in
+      let at = ap (λ (d : Database). d.greatest) is in
+      let counted = count_push is_doubt trail x in
+      subst Taking (sym trail_is) (record {
+        sound = kept.sound;
+        state = state ∙ kept.state ∙ ap (after base) (sym (commits-push trail x ∙ append-nil (commits trail)));
+        legal = legal_stop base limit trail kept.legal who t last (omega (arith, kept.moments, late));
+        leased = λ k. ap (λ (d : Database). is_out k d.out) is ∙ leased_stop base trail core.out kept.leased who t last k;
         moments = moments_on base trail x core_end.greatest (omega (arith, at));
         doubts = λ low_a low_b. let before = kept.doubts low_a low_b in omega (arith, before, counted);
         named = kept.named;
@@ -219,7 +236,6 @@ kept_begun {D} sees images faults j used other s sound none late named base trai
   state = sym ((λ i. after (base i) (commits (trail i))) ∙ after_nothing s.core.state sound);
   legal = subst (λ (l : List Item). IsTrue (is_legal_trail s.base s.limit l)) (sym trail) refl;
   leased = λ k. ap (is_out k) none ∙ ap (λ (l : List Item). is_out k (out l)) (sym trail);
-  unstopped = ap first_stop trail;
   moments = subst (λ (l : List Item). greatest s.base l ≤ s.core.greatest) (sym trail) (subst (λ (x : State). x.moment ≤ s.core.greatest) (sym base) late);
   doubts = λ low_a low_b. let same_a = ap faults a in let same_b = ap faults b in let counted = ap (count_by is_doubt) trail in omega (arith, same_a, same_b, counted);
   named = named;

@@ -1,8 +1,9 @@
 -- Each call of a store leads on.
-use Rattle.std.proofs.Common.{◌≡◌, Result, Ok, Err, inl, inr, ℕ, List, [], ◌∷◌, ◌++◌, Option, Some, refl, sym, ap, subst}
-use Rattle.std.specs.Prelude.{MatchResult, IfOk, IfErr, OnErr}
+use Rattle.std.proofs.Common.{◌≡◌, Bool, Result, Ok, Err, inl, inr, ℕ, List, [], ◌∷◌, ◌++◌, Option, Some, refl, sym, ap, subst}
+use Rattle.std.specs.Prelude.{MatchResult, IfOk, IfErr, OnOk, OnErr}
 use Rattle.std.proofs.lemmas.List.{append-nil}
 use Rattle.dkv_base.specs.declared.types.Call.{Call}
+use Rattle.dkv_base.specs.declared.types.Commit.{Commit}
 use Rattle.dkv_io.specs.Disks.{Told, AnyBytes}
 use Rattle.dkv_io.proofs.Seen.{told_same}
 use Rattle.dkv_core.specs.Decisions.{commit_of}
@@ -14,9 +15,10 @@ use Rattle.dkv_store.specs.declared.answers.Refusal.{Refusal}
 use Rattle.dkv_store.specs.declared.answers.Refusal.TheVariants as refusal
 use Rattle.dkv_store.specs.Attempts.{Attempt, made, left, attempted}
 use Rattle.dkv_store.specs.Renewing.{IsNextTerm}
-use Rattle.dkv_store.specs.Stores.{Contents, IsDone, IsRefused, IsMade, IsDoubtful, IsRaised, IsRaisedTo, IsOldOrNew, IsNotTaken, IsTake, SameDisks}
+use Rattle.dkv_store.specs.Stores.{Contents, IsDone, IsHeldBack, IsRefused, IsMade, IsDoubtful, IsRaised, IsRaisedTo, IsOldOrNew, IsNotTaken, IsStopped, IsTake, SameDisks}
 use Rattle.dkv_store.specs.Terms.{CommitLeaves, GoesOn, Leads}
 use Rattle.dkv_hub.specs.Rows.{Watch, WatchRow, new_row}
+use Rattle.dkv_core.specs.Cores.{Database}
 use Rattle.dkv_store.specs.Watches.{with_watches, raised_to}
 use Rattle.dkv_store.proofs.Answering.{raised_alone}
 use Rattle.dkv_store.proofs.Watched.{moved}
@@ -35,7 +37,7 @@ module _ {D : Type 0} (seen : D → Option (List ℕ)) (images : D → List ℕ 
         }) state doubt a b)
 
     -- so does one that leaves all but the greatest moment
-    raised_leads : (t : ℕ) → IsRaisedTo t old new → Leads seen images moment since [] old new
+    pub raised_leads : (t : ℕ) → IsRaisedTo t old new → Leads seen images moment since [] old new
     raised_leads t is = rests_leads is.state is.who is.doubt is.a is.b
 
     may_rise_leads : (t : ℕ) → IsRaised t old new → Leads seen images moment since [] old new
@@ -80,6 +82,23 @@ module _ {D : Type 0} (seen : D → Option (List ℕ)) (images : D → List ℕ 
     -- a further term begins on the state and the files as they stand
     pub term_leads : (limit : ℕ) → IsNextTerm old limit new → Leads seen images moment since [] old new
     term_leads limit is = rests_leads is.core.state is.who is.doubt is.a is.b
+
+    -- a stop joins the trail, or nothing does
+    pub stop_leads : {T E : Type 0} (who t : ℕ) (last : Bool) (result : Result T E) → OnOk result (IsStopped who t last old new) → OnErr result (IsRaisedTo old.core.greatest old new)
+        → Leads seen images moment since [] old new
+    stop_leads who t last (Ok x) is short = rests_leads (ap (λ (d : Database). d.state) is.core) is.disks.who is.disks.doubt is.disks.a is.disks.b
+    stop_leads who t last (Err e) is short = raised_leads old.core.greatest short
+
+    -- a write behind a stop
+    pub held_leads : (t : ℕ) (a : Call) (c : Commit) (result : Result Done Refusal) → IsHeldBack old t a result new → Leads seen images moment since (attempted result c) old new
+    held_leads t a c (Ok (done.Limit passed)) is = raised_leads old.core.greatest is.1
+    held_leads t a c (Err (refusal.Stopped place)) is = raised_leads t is.1
+    held_leads t a c (Ok (done.Committed n)) is = absurd is
+    held_leads t a c (Ok (done.Fails places)) is = absurd is
+    held_leads t a c (Ok (done.NotU64 index)) is = absurd is
+    held_leads t a c (Err refusal.DiskFault) is = absurd is
+    held_leads t a c (Err (refusal.Full bytes limit)) is = absurd is
+    held_leads t a c (Err refusal.NoMemory) is = absurd is
 
   -- a read changes the greatest moment alone
   pub read_leads : (old new : Contents D) (t : ℕ) → new ≡ record old { core = record old.core { greatest = t } } → Leads seen images moment since [] old new

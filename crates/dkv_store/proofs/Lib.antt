@@ -15,3 +15,4 @@ pub mod Going
 pub mod Leading
 pub mod Watched
 pub mod Beside
+pub mod Stopping

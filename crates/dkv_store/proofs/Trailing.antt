@@ -25,21 +25,13 @@ use Rattle.dkv_base.proofs.LongerTrails.{commits-push, out-push}
 use Rattle.dkv_base.proofs.NamedMessages.{same_id-true, same_id_self}
 use Rattle.dkv_core.specs.Decisions.{commit_of, settled_by}
 use Rattle.dkv_core.specs.Settling.{out_after}
-use Rattle.dkv_store.specs.Trails.{FitsIn}
+use Rattle.dkv_store.specs.Trails.{FindsNoStop, FitsIn}
 use Rattle.dkv_store.proofs.Holding.{legal_more, after_more}
 
 -- ---- counts, stops and items
 
 pub count_push : {X : Type 0} (p : X → Bool) (xs : List X) (y : X) → count_by p (xs ++ y ∷ []) ≡ count_by p xs + count_by p (y ∷ [])
 count_push p xs y = sum_by-append (λ x. cond (p x) 1 0) xs (y ∷ [])
-
-stops_on : (i : ℕ) (xs : List Item) (y : Item) → is_stop y ≡ false → position_from is_stop i xs ≡ None → position_from is_stop i (xs ++ y ∷ []) ≡ None
-stops_on i [] y other none = ap (λ b. cond b (Some i) None) other
-stops_on i (x ∷ xs) y other none =
-    elim (is_stop x) as (λ b. cond b (Some i) (position_from is_stop (i + 1) xs) ≡ None → cond b (Some i) (position_from is_stop (i + 1) (xs ++ y ∷ [])) ≡ None) [
-      | true ↦ λ is. is
-      | false ↦ λ is. stops_on (i + 1) xs y other is
-    ] none
 
 no_stop : (i : ℕ) (xs : List Item) → position_from is_stop i xs ≡ None → list_any is_stop xs ≡ false
 no_stop i [] e = refl
@@ -97,6 +89,9 @@ module _ (base : State) (trail : List Item) (core_out : List MsgId) (leased : (i
   pub leased_doubt : (who t : ℕ) (k : MsgId) → is_out k core_out ≡ is_out k (out (trail ++ item.Doubt who t ∷ []))
   leased_doubt who t k = leased k ∙ sym (out_on (item.Doubt who t) k refl)
 
+  pub leased_stop : (who t : ℕ) (last : Bool) (k : MsgId) → is_out k core_out ≡ is_out k (out (trail ++ item.Stop who t last ∷ []))
+  leased_stop who t last k = leased k ∙ sym (out_on (item.Stop who t last) k refl)
+
   pub leased_made : (a : Call) (who t : ℕ) (k : MsgId) → is_out k (out_after (settled_by a) core_out) ≡ is_out k (out (trail ++ item.Made (commit_of who t a) ∷ []))
   leased_made (call.Write w) who t k = leased k ∙ sym (out_on (item.Made (commit.Wrote who t w)) k refl)
   leased_made (call.Ack id) who t k =
@@ -141,6 +136,10 @@ module _ (base : State) (limit : ℕ) (trail : List Item) (legal : is_legal_trai
   pub legal_doubt : (who t : ℕ) → greatest base trail ≤ t → is_legal_trail base limit (trail ++ item.Doubt who t ∷ []) ≡ true
   legal_doubt who t late = trail_on (item.Doubt who t) (ap (is_legal base) (append-nil (commits trail)) ∙ legal_parts.0) late refl
 
+  -- a stop may stand anywhere
+  pub legal_stop : (who t : ℕ) (last : Bool) → greatest base trail ≤ t → is_legal_trail base limit (trail ++ item.Stop who t last ∷ []) ≡ true
+  legal_stop who t last late = trail_on (item.Stop who t last) (ap (is_legal base) (append-nil (commits trail)) ∙ legal_parts.0) late refl
+
   room : (x : Item) → first_stop trail ≡ None → weight (trail ++ x ∷ []) ≤ limit → has_room limit trail x ≡ true
   room x none fits = and_from _ _ (ap not (no_stop 0 trail none)) (le-leb (weight (trail ++ x ∷ [])) limit fits)
 
@@ -157,7 +156,7 @@ module _ (base : State) (limit : ℕ) (trail : List Item) (legal : is_legal_trai
     pub state_made : after base (commits (trail ++ item.Made (commit_of who t a) ∷ [])) ≡ after (after base (commits trail)) (commit_of who t a ∷ [])
     state_made = ap (after base) (commits-push trail (item.Made (commit_of who t a))) ∙ after_more base (commits trail) (commit_of who t a) sound legal_parts.0 free
 
-  pub legal_made : IsSound base → (who t : ℕ) (a : Call) → is_legal_in (after base (commits trail)) (commit_of who t a) ≡ true → greatest base trail ≤ t → first_stop trail ≡ None
+  pub legal_made : IsSound base → (who t : ℕ) (a : Call) → is_legal_in (after base (commits trail)) (commit_of who t a) ≡ true → greatest base trail ≤ t → FindsNoStop a trail
       → (core_out : List MsgId) → ((id : MsgId) → is_out id core_out ≡ is_out id (out trail)) → IsTrue (option_map_or (λ s. is_out s.id core_out) (settled_by a) true) → FitsIn limit trail (commit_of who t a)
       → is_legal_trail base limit (trail ++ item.Made (commit_of who t a) ∷ []) ≡ true
   legal_made sound who t (call.Write w) free late none core_out leased held fits =
@@ -166,9 +165,6 @@ module _ (base : State) (limit : ℕ) (trail : List Item) (legal : is_legal_trai
       trail_on (item.Made (commit.Acked who t id)) (more sound who t (call.Ack id) free late) late (sym (leased id) ∙ held)
   legal_made sound who t (call.Fail id) free late none core_out leased held fits =
       trail_on (item.Made (commit.Failed who t id)) (more sound who t (call.Fail id) free late) late (sym (leased id) ∙ held)
-
-pub unstopped_on : (trail : List Item) (x : Item) → is_stop x ≡ false → first_stop trail ≡ None → first_stop (trail ++ x ∷ []) ≡ None
-unstopped_on trail x other none = stops_on 0 trail x other none
 
 pub moments_on : (base : State) (trail : List Item) (x : Item) (g : ℕ) → item_moment x ≤ g → greatest base (trail ++ x ∷ []) ≤ g
 moments_on base trail x g le = omega (arith, greatest_on base trail x, le)

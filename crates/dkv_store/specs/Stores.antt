@@ -5,7 +5,7 @@
 --     Keeps ..      what every store keeps
 --     IsDone, IsRefused      the answers of a commit, and what they leave
 --     IsTake, IsNotTaken      the answers of a take, and what they leave
-use Rattle.std.specs.Prelude.{ℕ, replicate, ◌≡◌, ◌≢◌, ◌⊎◌, ◌+◌, ◌-◌, ◌^◌, ◌<◌, ◌≤◌, Bool, true, false, IsTrue, List, [], ◌∷◌, ◌++◌, max, min, count_by, Option, Some, None, is_some, Ok, Err, ◌||◌}
+use Rattle.std.specs.Prelude.{ℕ, replicate, ◌≡◌, ◌≢◌, ◌⊎◌, ◌+◌, ◌-◌, ◌^◌, ◌<◌, ◌≤◌, Bool, true, false, IsTrue, List, [], ◌∷◌, ◌++◌, max, min, count_by, Option, Some, None, is_some, Result, Ok, Err, ◌||◌}
 use Rattle.dkv_base.specs.declared.types.AtomicWrite.{AtomicWrite}
 use Rattle.dkv_base.specs.declared.types.Call.{Call}
 use Rattle.dkv_base.specs.declared.types.Call.TheVariants as called
@@ -94,7 +94,6 @@ pub record Keeps {D : Type 0} (sees : D → Option (List ℕ)) (images : D → L
   pub state : s.core.state ≡ after s.base (commits s.trail)
   pub legal : IsTrue (is_legal_trail s.base s.limit s.trail)
   pub leased : (id : MsgId) → is_out id s.core.out ≡ is_out id (out s.trail)
-  pub unstopped : first_stop s.trail ≡ None
   pub moments : greatest s.base s.trail ≤ s.core.greatest
   pub doubts : IsWithinRise (count_by is_doubt s.trail) (faults s.a_first) (faults s.a) (faults s.b_first) (faults s.b)
   pub named : journal.in_doubt ≡ is_some s.doubt
@@ -108,7 +107,6 @@ pub record Kept {D : Type 0} (faults : D → ℕ) (s : Contents D) : Type 0 wher
   pub state : s.core.state ≡ after s.base (commits s.trail)
   pub legal : IsTrue (is_legal_trail s.base s.limit s.trail)
   pub leased : (id : MsgId) → is_out id s.core.out ≡ is_out id (out s.trail)
-  pub unstopped : first_stop s.trail ≡ None
   pub moments : greatest s.base s.trail ≤ s.core.greatest
   pub doubts : IsWithinRise (count_by is_doubt s.trail) (faults s.a_first) (faults s.a) (faults s.b_first) (faults s.b)
 
@@ -195,6 +193,17 @@ IsRefused old who t call (refusal.Stopped place) new = OfWrite call (λ w. (writ
 IsRefused old who t call (refusal.Full bytes limit) new = OfWrite call (IsFull old who t) × (bytes ≡ weight old.trail) × (limit ≡ old.limit) × IsRaisedTo t old new
 IsRefused old who t call refusal.NoMemory new = IsRaised t old new
 
+-- what a write behind a stop is answered: the first limit that it passes, or the place of the stop
+abbrev pub IsHeldBack : {D : Type 0} → Contents D → ℕ → Call → Result Done Refusal → Contents D → Type 0
+IsHeldBack old t call (Ok (done.Limit passed)) new = OfWrite call (λ w. write_limit w ≡ Some passed) × IsRaisedTo old.core.greatest old new
+IsHeldBack old t call (Err (refusal.Stopped place)) new = OfWrite call (λ w. (write_limit w ≡ None) × (first_stop old.trail ≡ Some place)) × IsRaisedTo t old new
+IsHeldBack old t call (Ok (done.Committed n)) new = ⊥
+IsHeldBack old t call (Ok (done.Fails places)) new = ⊥
+IsHeldBack old t call (Ok (done.NotU64 index)) new = ⊥
+IsHeldBack old t call (Err refusal.DiskFault) new = ⊥
+IsHeldBack old t call (Err (refusal.Full bytes limit)) new = ⊥
+IsHeldBack old t call (Err refusal.NoMemory) new = ⊥
+
 -- a call that goes has a record that may be written
 abbrev pub IsShort : {D : Type 0} → Contents D → ℕ → ℕ → Call → Type 0
 IsShort s who t call = IsTrue (is_legal_in s.core.state (commit_of who t call)) → record_length (commit_of who t call) ≤ body_most Narrow
@@ -262,6 +271,13 @@ pub record SameDisks {D : Type 0} (old new : Contents D) : Type 0 where
   pub in_use : new.in_use ≡ old.in_use
   pub a_first : new.a_first ≡ old.a_first
   pub b_first : new.b_first ≡ old.b_first
+
+-- a stop stands behind the items, and the moment is raised; nothing else changed
+pub record IsStopped {D : Type 0} (who t : ℕ) (last : Bool) (old new : Contents D) : Type 0 where
+  pub core : new.core ≡ record old.core { greatest = t }
+  pub trail : new.trail ≡ old.trail ++ item.Stop who t last ∷ []
+  pub roomless : new.roomless ≡ old.roomless
+  pub disks : SameDisks old new
 
 -- ---- opening and creating
 

@@ -3,14 +3,20 @@
 --     KeepsPlaces ..      each message that is out has a place for its settlement, or lost it
 --     spent, freed      the messages without a place once a settlement used its own, and once it was made
 --     FitsIn, IsTooHeavy      whether a write finds room for its item under the limit
-use Rattle.std.specs.Prelude.{ℕ, ◌≡◌, ◌+◌, ◌<◌, ◌≤◌, true, false, IsTrue, List, [], ◌∷◌, ◌++◌, Option, Some, None, is_some, if◌then◌else◌}
+--     stop_told items      none where no item is a stop, else whether one of the stops is the last
+--     KnowsStops items stop ended      whether this is the place of the first stop, and whether one of the stops is the last
+--     FindsNoStop a items, FindsStop a items place      whether the call is no write behind a stop; whether it is one behind the stop at this place
+use Rattle.std.specs.Prelude.{ℕ, ◌≡◌, ◌+◌, ◌<◌, ◌≤◌, Bool, true, false, IsTrue, List, [], ◌∷◌, ◌++◌, Option, Some, None, is_some, option_map, if◌then◌else◌}
+use Rattle.std.specs.List.{list_any}
+use Rattle.dkv_base.specs.declared.types.Call.{Call}
+use Rattle.dkv_base.specs.declared.types.Call.TheVariants as called
 use Rattle.dkv_base.specs.declared.types.Commit.{Commit}
 use Rattle.dkv_base.specs.declared.types.Commit.TheVariants as commit
 use Rattle.dkv_base.specs.declared.types.Item.{Item}
 use Rattle.dkv_base.specs.declared.types.Item.TheVariants as item
 use Rattle.dkv_base.specs.declared.types.MsgId.{MsgId}
 use Rattle.dkv_base.specs.Messages.{is_out}
-use Rattle.dkv_base.specs.Trails.{out, weight}
+use Rattle.dkv_base.specs.Trails.{out, weight, first_stop}
 use Rattle.dkv_core.specs.Settling.{without_id}
 use Rattle.dkv_journal.specs.Records.{IsLaid}
 
@@ -82,3 +88,33 @@ abbrev pub IsTooHeavy : ℕ → List Item → Commit → Type 0
 IsTooHeavy limit trail (commit.Wrote who at w) = limit < weight (trail ++ item.Made (commit.Wrote who at w) ∷ [])
 IsTooHeavy limit trail (commit.Acked who at id) = ⊥
 IsTooHeavy limit trail (commit.Failed who at id) = ⊥
+
+-- ---- stops
+
+-- a stop after which no term begins
+abbrev pub is_last_stop : Item → Bool
+is_last_stop (item.Made c) = false
+is_last_stop (item.Took who at id) = false
+is_last_stop (item.Doubt who at) = false
+is_last_stop (item.Stop who at last) = last
+
+-- none where no item is a stop, else whether one of the stops is the last
+abbrev pub stop_told : List Item → Option Bool
+stop_told items = option_map (λ place. list_any is_last_stop items) (first_stop items)
+
+-- the place of the first stop, and whether one of the stops is the last
+pub record KnowsStops (items : List Item) (stop : Option ℕ) (ended : Bool) : Type 0 where
+  pub first : stop ≡ first_stop items
+  pub last : ended ≡ list_any is_last_stop items
+
+-- a write finds no stop among the items; a settlement asks for none
+abbrev pub FindsNoStop : Call → List Item → Type 0
+FindsNoStop (called.Write w) items = first_stop items ≡ None
+FindsNoStop (called.Ack id) items = Unit {0}
+FindsNoStop (called.Fail id) items = Unit {0}
+
+-- the call is a write, and the first stop stands at this place
+abbrev pub FindsStop : Call → List Item → ℕ → Type 0
+FindsStop (called.Write w) items place = first_stop items ≡ Some place
+FindsStop (called.Ack id) items place = ⊥
+FindsStop (called.Fail id) items place = ⊥

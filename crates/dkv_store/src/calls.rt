@@ -70,6 +70,9 @@ impl<D: Disk> Store<D> {
             → result ≡ Err refusal.NoMemory → ⊥ }
     {
         self.is_kept();
+        if let Some(place) = self.stop_for(&call) {
+            return self.hold_back(at, &call, place);
+        }
         let done = self.commit_kept(alloc, who, at, call);
         self.is_kept();
         done
@@ -88,7 +91,10 @@ impl<D: Disk> Store<D> {
         ensures disks { SameDisks self.old self.new }
         ensures watches { self.new.core.watches ≡ self.old.core.watches }
     {
-        self.is_kept();
+        if let Some(place) = self.first_stop() {
+            self.raise_to(at);
+            return Err(Refusal::Stopped { place });
+        }
         self.take_kept(alloc, who, at)
     }
 
@@ -109,7 +115,6 @@ impl<D: Disk> Store<D> {
         ensures short { IsRaisedTo (effective_at self.old at) self.old self.new }
         ensures watches { self.new.core.watches ≡ self.old.core.watches }
     {
-        self.is_kept();
         self.read_kept(alloc, at, ranges)
     }
 
@@ -130,7 +135,6 @@ impl<D: Disk> Store<D> {
         ensures short { IsRaisedTo (effective_at self.old at) self.old self.new }
         ensures watches { self.new.core.watches ≡ self.old.core.watches }
     {
-        self.is_kept();
         self.spell_kept(alloc, at, ranges)
     }
 }

@@ -13,6 +13,7 @@ ghost use Rattle.dkv_io.specs.Causes.{Rose};
 ghost use Rattle.dkv_io.specs.Disks.{Told, AnyBytes};
 ghost use Rattle.dkv_store.specs.Stores.{IsAckWithPlace, IsDone, IsRefused, IsShort, IsOldOrNew, effective_at, used_of, other_of};
 ghost use Rattle.dkv_store.specs.Terms.{CommitLeaves};
+ghost use Rattle.dkv_store.specs.Trails.{FindsNoStop};
 ghost use Rattle.dkv_store.specs.declared.answers.Refusal.TheVariants as refusal;
 
 use crate::answers::{Done, Refusal};
@@ -39,6 +40,7 @@ impl<D: Disk> Store<D> {
         requires numbered { self.old.core.state.number < 2 ^ 63 - 1 }
         requires out { IsTrue (may_ask self.old.core call) }
         requires short { IsShort self.old who (effective_at self.old at) call }
+        requires unstopped { FindsNoStop call self.old.trail }
         ensures answer { MatchResult result
             (λ d. IsDone self.old who (effective_at self.old at) call d self.new)
             (λ r. IsRefused self.old who (effective_at self.old at) call r self.new) }
@@ -89,6 +91,7 @@ impl<D: Disk> Store<D> {
     ) -> Result<Done, Refusal>
         requires goes { Goes self.old.core who at call prepared }
         requires short { IsShort self.old who at call }
+        requires unstopped { FindsNoStop call self.old.trail }
         ensures answer { MatchResult result
             (λ d. IsDone self.old who at call d self.new)
             (λ r. IsRefused self.old who at call r self.new) }

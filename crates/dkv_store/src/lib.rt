@@ -16,6 +16,7 @@ mod opening;
 mod reads;
 mod recall;
 mod replay;
+mod stops;
 mod store;
 mod takes;
 mod tells;
@@ -25,6 +26,7 @@ mod watches;
 
 pub use answers::{Done, OpenRefusal, Refusal};
 pub use opening::open_store;
+pub use stops::Peek;
 pub use store::Store;
 pub use tells::{Counts, Identity};
 pub use terms::{TermRefusal, WORN};

@@ -1,5 +1,5 @@
 // Opening: what two files recover to becomes a store.
-ghost use Rattle.std.specs.Prelude.{◌≡◌, ◌-◌, ◌⊎◌, ◌≤◌, OnOk, IfOk, IfErr, Ok, Err, false};
+ghost use Rattle.std.specs.Prelude.{◌≡◌, ◌-◌, ◌⊎◌, ◌≤◌, OnOk, IfOk, IfErr, Ok, Err, [], false};
 ghost use Rattle.dkv_io.specs.Causes.{Rose};
 ghost use Rattle.dkv_io.specs.Disks.{AtRest};
 ghost use Rattle.dkv_journal.specs.Crashes.{WhereTold};
@@ -40,6 +40,7 @@ pub fn open_store<D: Disk>(
         × (D.seen s.b ≡ D.seen pair.b)) }
     ensures later { IfOk result (λ s. (D.faults pair.a ≤ D.faults s.a)
         × (D.faults pair.b ≤ D.faults s.b)) }
+    ensures empty { IfOk result (λ s. s.trail ≡ []) }
     ensures moves_ok { IfOk result (λ s. WritesNothing D.may_leave D.moment D.left_since
         pair.a pair.b s.a s.b) }
     ensures moves_err { IfErr result (λ e. WritesNothing D.may_leave D.moment D.left_since

@@ -1,5 +1,6 @@
 // Messages, taken one after the other.
-ghost use Rattle.std.specs.Prelude.{◌≡◌, IfOk, IfErr};
+ghost use Rattle.std.specs.Prelude.{◌≡◌, None, IfOk, IfErr};
+ghost use Rattle.dkv_base.specs.Trails.{first_stop};
 ghost use Rattle.dkv_store.specs.Stores.{IsTake, IsNotTaken, SameDisks, effective_at};
 
 use crate::answers::Refusal;
@@ -14,6 +15,7 @@ impl<D: Disk> Store<D> {
     /// Takes the message that is due first, and makes room for one settlement of it. Touches no disk. Takes memory for a copy of
     /// the message and for that room.
     pub(crate) fn take_kept(&mut self, alloc: Global, who: u32, at: u64) -> Result<Taken, Refusal>
+        requires { first_stop self.old.trail ≡ None }
         ensures taken { IfOk result
             (λ taken. IsTake self.old who (effective_at self.old at) taken self.new) }
         ensures refused { IfErr result

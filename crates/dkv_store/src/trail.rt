@@ -1,17 +1,17 @@
 // The items of a term with their weight, and what the settlements of messages need that are out.
-ghost use Rattle.std.specs.Prelude.{◌≡◌, ◌+◌, ◌<◌, ◌≤◌, List, [], ◌∷◌, ◌++◌, IsTrue, IsOk, IfOk, OnOk, OnErr, Some, true, false, is_some, vec_len, vec_capacity};
+ghost use Rattle.std.specs.Prelude.{◌≡◌, ◌+◌, ◌<◌, ◌≤◌, List, [], ◌∷◌, ◌++◌, length, IsTrue, IsOk, IfOk, OnOk, OnErr, Some, true, false, is_some, vec_len, vec_capacity};
 ghost use Rattle.dkv_base.specs.declared.types.Item.{Item};
-ghost use Rattle.dkv_base.specs.declared.types.Item.TheVariants.{Made, Took};
+ghost use Rattle.dkv_base.specs.declared.types.Item.TheVariants.{Made, Took, Stop};
 ghost use Rattle.dkv_base.specs.declared.types.Profile.TheVariants.{Narrow};
 ghost use Rattle.dkv_base.specs.Messages.{is_out};
 ghost use Rattle.dkv_base.specs.Profiles.{body_most};
 ghost use Rattle.dkv_base.specs.Spelling.{record_length, record_body};
-ghost use Rattle.dkv_base.specs.Trails.{item_weight, out, takes, weight as weight_of};
+ghost use Rattle.dkv_base.specs.Trails.{first_stop, is_stop, item_weight, out, takes, weight as weight_of};
 ghost use Rattle.dkv_core.specs.Settling.{without_id};
 ghost use Rattle.dkv_journal.specs.Records.{first_layout, laid as laid_of};
 ghost use Rattle.dkv_msgs.specs.Readings.{reads_atomic_write};
 ghost use Rattle.dkv_record.specs.Records.{commit_of as read_as, is_settlement};
-ghost use Rattle.dkv_store.specs.Trails.{message_of, FitsIn, IfOut, IsTooHeavy, HasPlace, IsSettling, spent, freed, chosen};
+ghost use Rattle.dkv_store.specs.Trails.{message_of, stop_told, FitsIn, IfOut, IsTooHeavy, HasPlace, IsSettling, spent, freed, chosen};
 
 use crate::laid::{lay, settlement};
 use dkv_base::{Commit, Item, MsgId, NoMemory, Run};
@@ -37,12 +37,15 @@ pub(crate) struct Trail {
     lost: Vec<MsgId>,
     // A record of 25 bytes, from the first take on.
     settling: Option<Laid>,
+    // The place of the first stop, and whether one of the stops is the last.
+    stop: Option<u64>,
+    ended: bool,
 }
 
 impl Model for Trail {
     ghost use Rattle.std.specs.Prelude.{◌≡◌, ◌-◌, ◌+◌, vec_len, vec_capacity};
     ghost use Rattle.dkv_base.specs.Trails.{weight as weight_of};
-    ghost use Rattle.dkv_store.specs.Trails.{Items, KeepsPlaces};
+    ghost use Rattle.dkv_store.specs.Trails.{Items, KeepsPlaces, KnowsStops};
 
     ghost Value = { Items };
 
@@ -55,7 +58,8 @@ impl Model for Trail {
 
     ghost invariant = { λ t. (t.weight ≡ weight_of t.items.items) × KeepsPlaces
         t.items.items (vec_len t.items) (vec_capacity t.items)
-        t.lost.items (vec_len t.lost) (vec_capacity t.lost) t.kept t.settling };
+        t.lost.items (vec_len t.lost) (vec_capacity t.lost) t.kept t.settling
+        × KnowsStops t.items.items t.stop t.ended };
 }
 
 impl Trail {
@@ -70,6 +74,8 @@ impl Trail {
             kept: 0,
             lost: Vec::new(alloc),
             settling: None,
+            stop: None,
+            ended: false,
         }
     }
 
@@ -164,11 +170,12 @@ impl Trail {
         &self.settling
     }
 
-    /// Adds an item of this weight, which takes no message, and for which there is room. Takes no memory.
+    /// Adds an item of this weight, which takes no message and is no stop, and for which there is room. Takes no memory.
     pub(crate) fn add(&mut self, item: Item, weight: u64)
         requires room { 1 ≤ self.old.room }
         requires weighed { weight ≡ item_weight item }
         requires takes { takes item ≡ [] }
+        requires goes_on { is_stop item ≡ false }
         ensures items { self.new.items ≡ self.old.items ++ item ∷ [] }
         ensures roomless { self.new.roomless ≡ self.old.roomless }
     {
@@ -226,6 +233,45 @@ impl Trail {
         Ok(())
     }
 
+    /// Adds a stop. Takes memory for its item.
+    pub(crate) fn add_stop(&mut self, who: u32, at: u64, last: bool) -> Result<(), NoMemory>
+        ensures items { OnOk result (self.new.items ≡ self.old.items ++ Stop who at last ∷ []) }
+        ensures same { OnErr result (self.new.items ≡ self.old.items) }
+        ensures roomless { self.new.roomless ≡ self.old.roomless }
+    {
+        self.make_place()?;
+        let place = self.items.len() as u64;
+        self.stop = self.stop.or(Some(place));
+        self.ended = self.ended || last;
+        self.weight = self.weight.saturating_add(ITEM_WEIGHT);
+        self.items.push_reserved(Item::Stop { who, at, last });
+        Ok(())
+    }
+
+    /// How many items there are. Takes no memory.
+    pub(crate) fn len(&self) -> u64
+        ensures { result ≡ length self.now.items }
+    {
+        self.items.len() as u64
+    }
+
+    /// The place of the first stop, if there is one. Takes no memory.
+    pub(crate) fn stop(&self) -> Option<u64>
+        ensures { result ≡ first_stop self.now.items }
+    {
+        self.stop
+    }
+
+    /// None without a stop, else whether one of them is the last. Takes no memory.
+    pub(crate) fn stop_told(&self) -> Option<bool>
+        ensures { result ≡ stop_told self.now.items }
+    {
+        match self.stop {
+            Some(_) => Some(self.ended),
+            None => None,
+        }
+    }
+
     /// The weight of the items, in bytes. Takes no memory.
     pub(crate) fn weight(&self) -> u64
         ensures { result ≡ weight_of self.now.items }
@@ -265,6 +311,8 @@ impl Trail {
             kept: _,
             lost: _,
             settling: _,
+            stop: _,
+            ended: _,
         } = self;
         Run::of(items)
     }

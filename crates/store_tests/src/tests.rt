@@ -1,5 +1,6 @@
 //! The tests.
 mod calls;
 mod opening;
+mod stops;
 mod terms;
 mod watches;

@@ -16,10 +16,11 @@ loop-end-init g c =
       held = g.K.Sink.held c.args.sink.now;
     } in (
       subst (λ (l : List ℕ). Running g.D.Disk.seen g.D.Disk.may_leave g.D.Disk.faults g.D.Disk.moment g.D.Disk.left_since c.args.summary c.args.store before before c.args.store l 0 0) (sym c.new.ensures) (at_start g.D.Disk.seen g.D.Disk.may_leave g.D.Disk.faults g.D.Disk.moment g.D.Disk.left_since c.args.summary c.args.store before),
-      omega (arith, c.requires),
+      omega (arith, c.requires.few),
       omega arith,
       omega arith,
       omega arith,
+      c.requires.unstopped,
     )
 
 pub returns-clause-complete : goal.returns-clause-complete

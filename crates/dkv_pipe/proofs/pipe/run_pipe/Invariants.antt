@@ -1,4 +1,5 @@
-use Rattle.std.proofs.Common.{◌≤◌, length}
+use Rattle.std.proofs.Common.{◌≡◌, ◌≤◌, None, length}
+use Rattle.dkv_base.specs.Trails.{first_stop}
 use Rattle.dkv_pipe.specs.Running.{Running, IsEarlyNumber, to_do}
 use Rattle.dkv_pipe.proofs.pipe.run_pipe.Given as goal
 
@@ -12,6 +13,7 @@ invariant-loop-end g l =
     × (l.pipe.frames ≤ l.pipe.at)
     × (g.S.Source.faults l.fn.source ≤ g.S.Source.faults l.source)
     × (g.K.Sink.faults l.fn.sink ≤ g.K.Sink.faults l.sink)
+    × (first_stop l.pipe.store.trail ≡ None)
 
 abbrev pub decreases-loop-end : goal.decreases-loop-end
 decreases-loop-end g l = to_do l.pipe.at (length l.pipe.input)

@@ -21,7 +21,7 @@ use Rattle.dkv_store.specs.declared.recall.Recall.{Recall}
 use Rattle.dkv_base.specs.declared.types.Item.{Item}
 use Rattle.dkv_base.specs.declared.types.Item.TheVariants as item
 use Rattle.dkv_io.proofs.Seen.{was_told}
-use Rattle.dkv_store.specs.Trails.{message_of, spent, freed, FitsIn, IsTooHeavy}
+use Rattle.dkv_store.specs.Trails.{message_of, spent, freed, FindsNoStop, FitsIn, IsTooHeavy}
 use Rattle.dkv_store.proofs.Keeping.{kept_doubt, kept_made}
 use Rattle.dkv_store.proofs.Placing.{freed_spent}
 use Rattle.dkv_store.proofs.Results.{err_of, ok_of, failed_of, named_on}
@@ -168,7 +168,7 @@ invariant_of-self-2 g c =
     c.args.who c.args.at c.args.call c.args.prepared goes (named_on (λ (d : Recall Commit). d.value) _ n.doubt c.write.ensures.named) (ap (λ (u : InUse). u.second) c.write.ensures.in_use) c.write.ensures.cause.later (omega (arith, ap g.D.Disk.faults c.write.ensures.other))
     c.apply-n.ensures.state c.apply-n.ensures.out c.apply-n.ensures.moment
     (c.add_made.ensures.items ∙ (λ z. c.ready.ensures.items z ++ item.Made (is z) ∷ []))
-    fits
+    (subst (λ (s : Contents g.row.D.Denot). FindsNoStop c.args.call s.trail) (sym c.self.view_is) c.requires.unstopped) fits
     (λ fa told.
     let was = was_told _ _ _ fa told c.write.ensures.told in
     subst (λ (m : Commit). Hold (g.D.Disk.may_leave n.used) (Guarded (g.D.Disk.seen n.other) (g.D.Disk.may_leave n.other)) n.journal n.in_use (option_map (λ d. d.value) n.doubt) (and_then i.core.state m) me) is

@@ -5,7 +5,7 @@ use Rattle.dkv_store.proofs.store.Store.spell_read.Goals as goal
 
 pub returns-clause-steps : goal.returns-clause-steps
 returns-clause-steps g c who =
-    read_answers c.args.self.now c.spell_kept.new.self c.is_kept.ensures.kept.unstopped who c.args.at c.args.ranges.now c.requires.unlimited c.spell_kept.ensures.content
+    read_answers c.args.self.now c.spell_kept.new.self who c.args.at c.args.ranges.now c.requires.unlimited c.spell_kept.ensures.content
 
 pub returns-clause-goes : goal.returns-clause-goes
 returns-clause-goes g c =

@@ -4,7 +4,7 @@ use Rattle.dkv_base.specs.declared.types.Item.TheVariants as item
 use Rattle.dkv_base.specs.declared.types.Message.{Message}
 use Rattle.dkv_base.specs.declared.types.Profile.TheVariants.{Narrow}
 use Rattle.dkv_base.specs.Messages.{is_out}
-use Rattle.dkv_base.specs.Trails.{weight}
+use Rattle.dkv_base.specs.Trails.{first_stop, weight}
 use Rattle.dkv_core.specs.Takes.{IsFirst, IsTaken}
 use Rattle.dkv_core.specs.declared.takes.Taken.TheVariants as taken
 use Rattle.dkv_files.specs.Crashes.{Identity}
@@ -28,7 +28,7 @@ invariant_of-self-2 g c =
     kept_took g.D.Disk.seen g.D.Disk.may_leave g.D.Disk.faults i.files.journal i.base.value.state i.core d i.trail.items c.add_taken.new.self.items i.trail.roomless c.add_taken.new.self.roomless
     (option_map (λ d. d.value) i.files.doubt) me i.limit i.record_bytes i.files.in_use i.files.used i.files.other
     (picked i.first.value.in_use.second i.first.value.used i.first.value.other) (picked i.first.value.in_use.second i.first.value.other i.first.value.used) c.self.invariant
-    c.args.who t m c.moment-at.ensures.effective.late is c.in_ok-add_taken.ensures.items
+    c.args.who t m (ap (λ s. first_stop s.trail) c.self.view_is ∙ c.requires) c.moment-at.ensures.effective.late is c.in_ok-add_taken.ensures.items
     (c.passes.ensures.within (item.Took c.args.who t m.id) refl c.if-passes.false)
 
 -- ---- a trail that is full

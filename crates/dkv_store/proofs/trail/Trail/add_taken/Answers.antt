@@ -7,6 +7,7 @@ use Rattle.dkv_base.specs.Trails.{out, weight}
 use Rattle.dkv_core.specs.Settling.{without_id}
 use Rattle.dkv_store.specs.Trails.{Items}
 use Rattle.dkv_store.proofs.Placing.{kept_taken, weighed_on}
+use Rattle.dkv_store.proofs.Stopping.{knows_on}
 use Rattle.dkv_store.proofs.trail.Trail.add_taken.Goals as goal
 
 pub invariant_of-self-2 : goal.invariant_of-self-2
@@ -32,4 +33,5 @@ invariant_of-self-2 c =
           c.args.who c.args.at c.args.id n.items (vec_len n) (vec_capacity n) d.items (vec_len d) (vec_capacity d) c.have_record.new.settling free
           items (omega (arith, more, same)) (omega (arith, wanted, had, same, most)) (c.drop_id.ensures.ids ∙ ap (without_id c.args.id) c.reserve-2.ensures.items)
           (omega (arith, few, lost_same)) (omega (arith, wanted, lost_had, lost_same, lost_most)) c.have_record.ensures.settling c.in_ok-have_record.ensures.there,
+      knows_on i.items.items n.items x i.stop i.ended c.self.invariant.2 refl items,
     )

@@ -13,4 +13,4 @@ invariant_of-self c =
     let free = subst (λ (t : Items). is_out c.args.id (out t.items) ≡ false) (sym c.self.view_is) c.requires in
     let keeps = kept_forgot i.items.items (vec_len i.items) (vec_capacity i.items) i.lost.items (vec_len i.lost) (vec_capacity i.lost) i.kept i.settling c.self.invariant.1
     c.args.id n.items (vec_len n) free c.drop_id.ensures.ids c.drop_id.ensures.len in
-    (c.self.invariant.0, subst (λ (most : ℕ). KeepsPlaces i.items.items (vec_len i.items) (vec_capacity i.items) n.items (vec_len n) most i.kept i.settling) (sym c.drop_id.ensures.capacity) keeps)
+    (c.self.invariant.0, subst (λ (most : ℕ). KeepsPlaces i.items.items (vec_len i.items) (vec_capacity i.items) n.items (vec_len n) most i.kept i.settling) (sym c.drop_id.ensures.capacity) keeps, c.self.invariant.2)

@@ -31,7 +31,7 @@ invariant_of-self c =
     let one = one_kept i.items.items (vec_len i.items) (vec_capacity i.items) i.lost.items (vec_len i.lost) (vec_capacity i.lost) i.kept i.settling c.self.invariant.1 c.args.id is free in
     let keeps = kept_spent i.items.items (vec_len i.items) (vec_capacity i.items) i.lost.items (vec_len i.lost) (vec_capacity i.lost) i.kept i.settling c.self.invariant.1
     c.args.id n.items (vec_len n) (i.kept - 1) is free (omega (arith, one)) c.push_reserved.ensures.items c.push_reserved.ensures.len in
-    (c.self.invariant.0, subst (λ (most : ℕ). KeepsPlaces i.items.items (vec_len i.items) (vec_capacity i.items) n.items (vec_len n) most (i.kept - 1) i.settling) (sym c.push_reserved.ensures.capacity) keeps)
+    (c.self.invariant.0, subst (λ (most : ℕ). KeepsPlaces i.items.items (vec_len i.items) (vec_capacity i.items) n.items (vec_len n) most (i.kept - 1) i.settling) (sym c.push_reserved.ensures.capacity) keeps, c.self.invariant.2)
 
 pub returns-clause-room : goal.returns-clause-room
 returns-clause-room c =
